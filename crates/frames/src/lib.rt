@@ -1,0 +1,17 @@
+// Frames: lines of hexadecimal digits, one frame a line.
+mod answer_frames;
+mod frame;
+
+pub use answer_frames::WriteFault;
+pub use answer_frames::WriteFaultDebug;
+pub use answer_frames::WriteFaultPartialEq;
+pub use frame::DigitFault;
+pub use frame::DigitFaultDebug;
+pub use frame::DigitFaultPartialEq;
+pub use frame::DigitsInFrame;
+pub use frame::Frame;
+pub use frame::FrameDebug;
+pub use frame::FrameFault;
+pub use frame::FrameFaultDebug;
+pub use frame::FrameFaultPartialEq;
+pub use frame::FramePartialEq;
