@@ -1,0 +1,4 @@
+pub mod SummaryLaws
+pub mod LineLaws
+pub mod TurnLaws
+pub mod BookTurns

@@ -1,0 +1,11 @@
+// Whole texts of frames: catalogues of fits and rule books, read into a caller's tables and written from them.
+mod fault;
+mod seen;
+
+pub use fault::Fault;
+pub use fault::FaultDebug;
+pub use fault::FaultPartialEq;
+pub use fault::FrameInFault;
+pub use fault::Refusal;
+pub use fault::RefusalDebug;
+pub use fault::RefusalPartialEq;
