@@ -10,6 +10,7 @@ use Rattle.std.proofs.shelf.Lists.{append-assoc, append-nil, length-append}
 use Rattle.std.proofs.shelf.Tests.{and-parts, eq-eqb, ne-eqb, eqb-true, cond-true, cond-false, false≢true}
 use Rattle.std.specs.declared.result.Result.{Result}
 use Rattle.std.specs.declared.result.Result.the-variants.{Ok, Err}
+use Rattle.literals.specs.declared.condition.Condition.{Condition}
 use Rattle.tables.specs.declared.row.RuleRow.{RuleRow}
 use Rattle.tables.specs.declared.row.WishRow.{WishRow}
 use Rattle.tables.specs.declared.row.AlternativeRow.{AlternativeRow}
@@ -80,11 +81,130 @@ abbrev Late : ℕ → List AlternativeRow → Type 0
 Late m [] = Unit {0}
 Late m (a ∷ rest) = m ≤ a .wish + 1
 
-late : (s m : ℕ) (tail : List Frame) → 1 ≤ m → Late m (rowsFrom alternativeIn s m tail)
-late s m [] h = tt
-late s m (Rule row ∷ tail) h = late-on s m tail h
-late s m (RankStep ∷ tail) h = late-on (s + 1) m tail h
-late s m (Wish body ∷ tail) h = ?
-late s m (Alternative level condition ∷ tail) h = omega arith
-late s m (End n ∷ tail) h = late-on s m tail h
-late s m (Fit set ∷ tail) h = late-on s m tail h
+late : (s m k : ℕ) (tail : List Frame) → 1 ≤ k → k ≤ m → Late k (rowsFrom alternativeIn s m tail)
+late s m k [] h l = tt
+late s m k (Rule row ∷ tail) h l = late (s + 0) (m + 0) k tail h (omega arith)
+late s m k (RankStep ∷ tail) h l = late (s + 1) (m + 0) k tail h (omega arith)
+late s m k (Wish body ∷ tail) h l = late (s + 0) (m + 1) k tail h (omega arith)
+late s m k (Alternative level condition ∷ tail) h l = omega arith
+late s m k (End n ∷ tail) h l = late (s + 0) (m + 0) k tail h (omega arith)
+late s m k (Fit set ∷ tail) h l = late (s + 0) (m + 0) k tail h (omega arith)
+
+none-of-last : (m k : ℕ) (rows : List AlternativeRow) → m < k → Late k rows → (ofLast m rows ≡ []) × (pastLast m rows ≡ rows)
+none-of-last m k [] h l = (refl, refl)
+none-of-last m k (a ∷ rows) h l = let other = ne-eqb (a .wish + 1) m (λ e. omega arith) in (cond-false _ _ _ other, cond-false _ _ _ other)
+
+-- the frames behind m wishes, the last of which may still get alternatives
+abbrev shape : ℕ → ℕ → List WishRow → List AlternativeRow → List Frame
+shape r m ws rows = map alternativeFrame (ofLast m rows) ++ wishFrames r m ws (pastLast m rows)
+
+shape-none : (r m : ℕ) (ws : List WishRow) (rows : List AlternativeRow) → (ofLast m rows ≡ []) × (pastLast m rows ≡ rows) → shape r m ws rows ≡ wishFrames r m ws rows
+shape-none r m ws rows p = ap (λ x. map alternativeFrame x ++ wishFrames r m ws (pastLast m rows)) (p .0) ∙ ap (wishFrames r m ws) (p .1)
+
+-- a rank step before a wish of a higher rank
+step-in : (r m : ℕ) (w : WishRow) (ws : List WishRow) (rows : List AlternativeRow) → r + 1 ≤ w .rank → RankStep ∷ wishFrames (r + 1) m (w ∷ ws) rows ≡ wishFrames r m (w ∷ ws) rows
+step-in r m w ws rows h =
+    let more : suc (w .rank - (r + 1)) ≡ w .rank - r = omega arith in
+    let same : r + 1 + (w .rank - (r + 1)) ≡ r + (w .rank - r) = omega arith in
+    let after : ℕ → List Frame = λ k. Wish (w .body) ∷ (map alternativeFrame (ofLast (m + 1) rows) ++ wishFrames k (m + 1) ws (pastLast (m + 1) rows)) in
+    ap (λ k. RankStep ∷ (steps (w .rank - (r + 1)) ++ after k)) same ∙ ap (λ k. steps k ++ after (r + (w .rank - r))) more
+
+-- a wish of the rank that is reached
+wish-in : (r m : ℕ) (w : WishRow) (ws : List WishRow) (rows : List AlternativeRow) → w .rank ≡ r → Wish (w .body) ∷ shape r (m + 1) ws rows ≡ wishFrames r m (w ∷ ws) rows
+wish-in r m w ws rows e =
+    let none : 0 ≡ w .rank - r = omega arith in
+    let same : r ≡ r + (w .rank - r) = omega arith in
+    let after : ℕ → List Frame = λ k. Wish (w .body) ∷ (map alternativeFrame (ofLast (m + 1) rows) ++ wishFrames k (m + 1) ws (pastLast (m + 1) rows)) in
+    ap after same ∙ ap (λ k. steps k ++ after (r + (w .rank - r))) none
+
+-- an alternative of the last wish
+alternative-in : (r m : ℕ) (ws : List WishRow) (a : AlternativeRow) (rows : List AlternativeRow) → a .wish + 1 ≡ m → alternativeFrame a ∷ shape r m ws rows ≡ shape r m ws (a ∷ rows)
+alternative-in r m ws a rows e =
+    let here = eq-eqb (a .wish + 1) m e in
+    sym (ap (λ x. map alternativeFrame x ++ wishFrames r m ws (pastLast m (a ∷ rows))) (cond-true _ _ _ here) ∙ ap (λ x. alternativeFrame a ∷ (map alternativeFrame (ofLast m rows) ++ wishFrames r m ws x)) (cond-true _ _ _ here))
+
+-- one frame in front
+grow : (f : Frame) (before xs ys tail : List Frame) → tail ≡ xs ++ End (length (before ++ f ∷ []) + length xs) ∷ [] → f ∷ xs ≡ ys → f ∷ tail ≡ ys ++ End (length before + length ys) ∷ []
+grow f before xs ys tail e p =
+    let long = length-append before (f ∷ []) in
+    ap (λ t. f ∷ t) e ∙ ap (λ k. f ∷ (xs ++ End k ∷ [])) (omega arith) ∙ ap (λ zs. zs ++ End (length before + length zs) ∷ []) p
+
+step-no-wish : (f : Frame) → isStep f ≡ true → ofWish f ≡ false
+step-no-wish (Rule row) e = refl
+step-no-wish RankStep e = refl
+step-no-wish (Wish body) e = absurd (false≢true e)
+step-no-wish (Alternative level condition) e = absurd (false≢true e)
+step-no-wish (End n) e = refl
+step-no-wish (Fit set) e = refl
+
+on-step-or : (a b : Bool) (fs : List Frame) → (a ≡ true → b ≡ false) → lastOr a isStep fs ≡ true → lastOr b ofWish fs ≡ false
+on-step-or a b [] h e = h e
+on-step-or a b (f ∷ fs) h e = on-step-or (isStep f) (ofWish f) fs (step-no-wish f) e
+
+on-step : (fs : List Frame) → last isStep fs ≡ true → last ofWish fs ≡ false
+on-step fs e = on-step-or false false fs (λ x. refl) e
+
+headRule : List Frame → Bool
+headRule [] = false
+headRule (f ∷ fs) = isRule f
+
+abbrev wishRows : ℕ → ℕ → List Frame → List WishRow
+wishRows s n tail = rowsFrom wishIn s n tail
+
+abbrev alternativeRows : ℕ → ℕ → List Frame → List AlternativeRow
+alternativeRows s n tail = rowsFrom alternativeIn s n tail
+
+-- frames that end a book behind its rules
+record Wishes (before tail : List Frame) (s n r m : ℕ) : Type 0 where
+  ruleless : rowsFrom ruleIn s n tail ≡ []
+  shaped : tail ≡ shape r m (wishRows s n tail) (alternativeRows s n tail) ++ End (length before + length (shape r m (wishRows s n tail) (alternativeRows s n tail))) ∷ []
+  ahead : last isStep before ≡ true → (w : WishRow) × (ws : List WishRow) × (wishRows s n tail ≡ w ∷ ws) × (r ≤ w .rank)
+  apart : last ofWish before ≡ false → (ofLast m (alternativeRows s n tail) ≡ []) × (pastLast m (alternativeRows s n tail) ≡ alternativeRows s n tail)
+
+module _ (before : List Frame) (s n r m : ℕ) (rank : r ≡ s + 1) (number : m ≡ n) where
+  after-step : (tail : List Frame) → Wishes (before ++ RankStep ∷ []) tail (s + 1) (n + 0) (r + 1) m → Wishes before (RankStep ∷ tail) s n r m
+  after-step tail ih =
+      let (w, ws, is, high) = ih .ahead (last-more false isStep RankStep before) in
+      let none = ih .apart (last-more false ofWish RankStep before) in
+      let rows = alternativeRows (s + 1) (n + 0) tail in
+      let all = wishRows (s + 1) (n + 0) tail in
+      let same : RankStep ∷ shape (r + 1) m all rows ≡ shape r m all rows =
+      ap (λ x. RankStep ∷ x) (shape-none (r + 1) m all rows none ∙ ap (λ x. wishFrames (r + 1) m x rows) is) ∙ step-in r m w ws rows high ∙ sym (shape-none r m all rows none ∙ ap (λ x. wishFrames r m x rows) is) in
+      record {
+        ruleless = ih .ruleless;
+        shaped = grow RankStep before _ _ tail (ih .shaped) same;
+        ahead = λ e. (w, ws, is, omega arith);
+        apart = λ e. none;
+      }
+
+  after-wish : (body : Condition) (tail : List Frame) → Wishes (before ++ Wish body ∷ []) tail (s + 0) (n + 1) r (m + 1) → Wishes before (Wish body ∷ tail) s n r m
+  after-wish body tail ih =
+      let w : WishRow = record { rank = s + 1; body = body } in
+      let rows = alternativeRows (s + 0) (n + 1) tail in
+      let all = wishRows (s + 0) (n + 1) tail in
+      let none = none-of-last m (m + 1) rows (omega arith) (late (s + 0) (n + 1) (m + 1) tail (omega arith) (omega arith)) in
+      record {
+        ruleless = ih .ruleless;
+        shaped = grow (Wish body) before _ _ tail (ih .shaped) (wish-in r m w all rows (sym rank) ∙ sym (shape-none r m (w ∷ all) rows none));
+        ahead = λ e. (w, all, refl, omega arith);
+        apart = λ e. none;
+      }
+
+  after-alternative : (level : ℕ) (condition : Condition) (tail : List Frame) → 1 ≤ n → last ofWish before ≡ true → Wishes (before ++ Alternative level condition ∷ []) tail (s + 0) (n + 0) r m → Wishes before (Alternative level condition ∷ tail) s n r m
+  after-alternative level condition tail some on ih =
+      let a : AlternativeRow = record { wish = n - 1; level = level; condition = condition } in
+      record {
+        ruleless = ih .ruleless;
+        shaped = grow (Alternative level condition) before _ _ tail (ih .shaped) (alternative-in r m (wishRows (s + 0) (n + 0) tail) a (alternativeRows (s + 0) (n + 0) tail) (omega arith));
+        ahead = λ e. absurd (false≢true (sym (on-step before e) ∙ on));
+        apart = λ e. absurd (false≢true (sym e ∙ on));
+      }
+
+  at-end : (k : ℕ) → k ≡ length before → not (last isStep before) ≡ true → Wishes before (End k ∷ []) s n r m
+  at-end k e off =
+      record {
+        ruleless = refl;
+        shaped = ap (λ j. End j ∷ []) (e ∙ omega arith);
+        ahead = λ on. absurd (over on off);
+        apart = λ x. (refl, refl);
+      }
