@@ -1,0 +1,5 @@
+pub mod HexLaws
+pub mod WordLaws
+pub mod DigitLaws
+pub mod KindLaws
+pub mod FrameLaws
