@@ -3,3 +3,4 @@ pub mod WordLaws
 pub mod DigitLaws
 pub mod KindLaws
 pub mod FrameLaws
+pub mod LineLaws
