@@ -232,3 +232,17 @@ overwritten line out = line ++ drop (length line) out
 -- A buffer after a line was to be written: as it was where there is no room.
 abbrev pub writtenIn : List ℕ → List ℕ → List ℕ
 writtenIn line out = cond (ltb (length out) (length line)) out (overwritten line out)
+
+-- The length of a line, two digits a byte and a line feed.
+abbrev pub ruleLength : RuleRow → ℕ
+ruleLength (Plain code body) = 71
+ruleLength (Constraint body) = 69
+ruleLength (Choice least greatest head body) = 105
+
+abbrev pub lineLength : Frame → ℕ
+lineLength (Rule row) = ruleLength row
+lineLength RankStep = 5
+lineLength (Wish body) = 69
+lineLength (Alternative level condition) = 71
+lineLength (End count) = 9
+lineLength (Fit set) = 37

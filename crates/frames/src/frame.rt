@@ -72,3 +72,20 @@ impl FrameFault {
         }
     }
 }
+
+impl Frame {
+    // Whether the row of the frame makes a record.
+    pub fn makes_record(&self) -> bool
+        ensures { λ r. ⌜ r ≡ makesRecord (now (self .entry)) ⌝ }
+    {
+        match self {
+            Frame::Rule(row) => row.makes_rule(),
+            Frame::Alternative {
+                level,
+                condition: _,
+            } => 1 <= *level && *level <= 8,
+            Frame::Fit(set) => set.is_consistent(),
+            Frame::RankStep | Frame::Wish(_) | Frame::End(_) => true,
+        }
+    }
+}

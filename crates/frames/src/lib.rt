@@ -1,6 +1,8 @@
 // Frames: lines of hexadecimal digits, one frame a line.
 mod answer_frames;
 mod frame;
+mod hex;
+mod reader;
 
 pub use answer_frames::WriteFault;
 pub use answer_frames::WriteFaultDebug;
@@ -15,3 +17,4 @@ pub use frame::FrameFault;
 pub use frame::FrameFaultDebug;
 pub use frame::FrameFaultPartialEq;
 pub use frame::FramePartialEq;
+pub use reader::read_frame;

@@ -1,0 +1,6 @@
+pub mod HexLaws
+pub mod WordLaws
+pub mod DigitLaws
+pub mod KindLaws
+pub mod FrameLaws
+pub mod LineLaws
