@@ -208,3 +208,83 @@ module _ (before : List Frame) (s n r m : ℕ) (rank : r ≡ s + 1) (number : m 
         ahead = λ on. absurd (over on off);
         apart = λ x. (refl, refl);
       }
+
+ended-still : (before : List Frame) (f : Frame) → ended before ≡ false → isEnd f ≡ false → ended (before ++ f ∷ []) ≡ false
+ended-still before f e g = some-more isEnd f before ∙ ap (λ b. b || isEnd f) e ∙ g
+
+-- behind its rules
+wishes-end : (tail before : List Frame) (s n r m : ℕ) → r ≡ s + 1 → m ≡ n → (last ofWish before ≡ true → 1 ≤ n) → (headRule tail ≡ true → every isRule before ≡ false)
+    → ended before ≡ false → InTurn Book before tail → ended (before ++ tail) ≡ true → Wishes before tail s n r m
+unfolding headRule
+wishes-end [] before s n r m rank number on no-rule going t done = absurd (false≢true (sym going ∙ ap ended (sym (append-nil before)) ∙ done))
+wishes-end (Rule row ∷ tail) before s n r m rank number on no-rule going t done = absurd (false≢true (sym (no-rule refl) ∙ placed Book before (Rule row) (t .0) .0))
+wishes-end (RankStep ∷ tail) before s n r m rank number on no-rule going t done =
+    after-step before s n r m rank number tail
+    (wishes-end tail (before ++ RankStep ∷ []) (s + 1) (n + 0) (r + 1) m (omega arith) (omega arith) (λ e. absurd (false≢true (sym (last-more false ofWish RankStep before) ∙ e))) (λ e. every-not isRule RankStep before refl)
+    (ended-still before RankStep going refl) (t .1) (ap ended (append-assoc before (RankStep ∷ []) tail) ∙ done))
+wishes-end (Wish body ∷ tail) before s n r m rank number on no-rule going t done =
+    after-wish before s n r m rank number body tail
+    (wishes-end tail (before ++ Wish body ∷ []) (s + 0) (n + 1) r (m + 1) (omega arith) (omega arith) (λ e. omega arith) (λ e. every-not isRule (Wish body) before refl)
+    (ended-still before (Wish body) going refl) (t .1) (ap ended (append-assoc before (Wish body ∷ []) tail) ∙ done))
+wishes-end (Alternative level condition ∷ tail) before s n r m rank number on no-rule going t done =
+    let last-wish = placed Book before (Alternative level condition) (t .0) .0 in
+    let some = on last-wish in
+    after-alternative before s n r m rank number level condition tail some last-wish
+    (wishes-end tail (before ++ Alternative level condition ∷ []) (s + 0) (n + 0) r m (omega arith) (omega arith) (λ e. omega arith) (λ e. every-not isRule (Alternative level condition) before refl)
+    (ended-still before (Alternative level condition) going refl) (t .1) (ap ended (append-assoc before (Alternative level condition ∷ []) tail) ∙ done))
+wishes-end (End k ∷ tail) before s n r m rank number on no-rule going t done =
+    let p = placed Book before (End k) (t .0) in
+    let P : List Frame → Type 0 = λ x. Wishes before (End k ∷ x) s n r m in
+    subst P (sym (none-behind before k tail (t .1))) (at-end before s n r m rank number k (eqb-true k (length before) (p .1)) (and-parts _ _ (p .0) .1))
+wishes-end (Fit set ∷ tail) before s n r m rank number on no-rule going t done = absurd (false≢true (placed Book before (Fit set) (t .0) .0))
+
+-- with its rules
+abbrev bookShape : List Frame → List Frame
+bookShape tail = map Rule (rowsFrom ruleIn 0 0 tail) ++ wishFrames 1 0 (wishRows 0 0 tail) (alternativeRows 0 0 tail)
+
+abbrev Whole : List Frame → List Frame → Type 0
+Whole before tail = tail ≡ bookShape tail ++ End (length before + length (bookShape tail)) ∷ []
+
+never-wish-or : (a : Bool) (fs : List Frame) → a ≡ false → every isRule fs ≡ true → lastOr a ofWish fs ≡ false
+never-wish-or a [] e h = e
+never-wish-or a (Rule row ∷ fs) e h = never-wish-or false fs refl h
+never-wish-or a (RankStep ∷ fs) e h = absurd (false≢true h)
+never-wish-or a (Wish body ∷ fs) e h = absurd (false≢true h)
+never-wish-or a (Alternative level condition ∷ fs) e h = absurd (false≢true h)
+never-wish-or a (End k ∷ fs) e h = absurd (false≢true h)
+never-wish-or a (Fit set ∷ fs) e h = absurd (false≢true h)
+
+never-ended : (fs : List Frame) → every isRule fs ≡ true → ended fs ≡ false
+never-ended [] h = refl
+never-ended (Rule row ∷ fs) h = never-ended fs h
+never-ended (RankStep ∷ fs) h = absurd (false≢true h)
+never-ended (Wish body ∷ fs) h = absurd (false≢true h)
+never-ended (Alternative level condition ∷ fs) h = absurd (false≢true h)
+never-ended (End k ∷ fs) h = absurd (false≢true h)
+never-ended (Fit set ∷ fs) h = absurd (false≢true h)
+
+-- where the rules are over
+rules-over : (tail before : List Frame) → headRule tail ≡ false → every isRule before ≡ true → InTurn Book before tail → ended (before ++ tail) ≡ true → Whole before tail
+rules-over tail before h rules t done =
+    let off = never-wish-or false before refl rules in
+    let w = wishes-end tail before 0 0 1 0 refl refl (λ e. absurd (false≢true (sym off ∙ e))) (λ e. absurd (false≢true (sym h ∙ e))) (never-ended before rules) t done in
+    let rows = alternativeRows 0 0 tail in
+    let all = wishRows 0 0 tail in
+    let same : shape 1 0 all rows ≡ bookShape tail = shape-none 1 0 all rows (w .apart off) ∙ ap (λ x. map Rule x ++ wishFrames 1 0 all rows) (sym (w .ruleless)) in
+    w .shaped ∙ ap (λ x. x ++ End (length before + length x) ∷ []) same
+
+pub rules-end : (tail before : List Frame) → every isRule before ≡ true → InTurn Book before tail → ended (before ++ tail) ≡ true → Whole before tail
+unfolding headRule
+rules-end [] before rules t done = rules-over [] before refl rules t done
+rules-end (Rule row ∷ tail) before rules t done =
+    grow (Rule row) before (bookShape tail) (bookShape (Rule row ∷ tail)) tail
+    (rules-end tail (before ++ Rule row ∷ []) (every-more isRule (Rule row) before ∙ ap (λ b. b && true) rules) (t .1) (ap ended (append-assoc before (Rule row ∷ []) tail) ∙ done)) refl
+rules-end (RankStep ∷ tail) before rules t done = rules-over (RankStep ∷ tail) before refl rules t done
+rules-end (Wish body ∷ tail) before rules t done = rules-over (Wish body ∷ tail) before refl rules t done
+rules-end (Alternative level condition ∷ tail) before rules t done = rules-over (Alternative level condition ∷ tail) before refl rules t done
+rules-end (End k ∷ tail) before rules t done = rules-over (End k ∷ tail) before refl rules t done
+rules-end (Fit set ∷ tail) before rules t done = rules-over (Fit set ∷ tail) before refl rules t done
+
+-- the frames of an accepted book are those of its tables
+pub book-frames : (fs : List Frame) → InTurn Book [] fs → ended fs ≡ true → fs ≡ ending (bookFrames (tablesOf fs))
+book-frames fs t done = rules-end fs [] refl t done ∙ ap (λ k. bookShape fs ++ End k ∷ []) (omega arith)

@@ -7,6 +7,7 @@ use mathlib.Core.List.{List, [], _∷_, _++_}
 use lib.Dec.{eqb}
 use lib.ListN.{length}
 use Rattle.std.proofs.shelf.Lists.{nil-from-length}
+use Rattle.std.proofs.shelf.Tests.{eqb-true, eqb-false}
 use Rattle.std.specs.declared.option.Option.{Option}
 use Rattle.std.specs.declared.option.Option.the-variants.{Some, None}
 use Rattle.std.specs.declared.result.Result.{Result}
@@ -169,3 +170,10 @@ behind-shorter (b ∷ t) r e = behind-at (eqb b 10) t r (behind-shorter t r) e
 
 pub read-shorter : (t : List ℕ) (f : Frame) (r : List ℕ) → readFrame t ≡ Ok (f, r) → length r < length t
 read-shorter t f r e = behind-shorter t r (read-first t f r e .0)
+
+-- a test for an empty text
+pub nonempty : (n : ℕ) (b : Bool) → b ≡ eqb n 0 → b ≡ false → 0 < n
+nonempty n b e f = let ne = eqb-false n 0 (sym e ∙ f) in omega arith
+
+pub empty : (n : ℕ) (b : Bool) → b ≡ eqb n 0 → b ≡ true → n ≡ 0
+empty n b e f = eqb-true n 0 (sym e ∙ f)

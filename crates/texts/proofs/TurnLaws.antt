@@ -13,6 +13,7 @@ use Rattle.std.specs.declared.result.Result.the-variants.{Ok, Err}
 use Rattle.frames.specs.declared.frame.Frame.{Frame}
 use Rattle.frames.specs.declared.frame.FrameFault.{FrameFault}
 use Rattle.frames.specs.Frames.{lineFor, readFrame, Good}
+use Rattle.frames.proofs.LineLaws.{read-exact, read-good, read-back}
 use Rattle.texts.specs.declared.fault.Fault.{Fault}
 use Rattle.texts.specs.declared.fault.Fault.the-variants as fault
 use Rattle.texts.specs.declared.fault.Fault.the-variants.{Place}
@@ -42,9 +43,7 @@ abbrev pub Refused : TextKind → List Frame → List ℕ → Refusal → Type 0
 Refused kind before t e =
     (tail : List Frame) × (rest : List ℕ) × Runs kind before t tail rest × (e .line ≡ length (before ++ tail) + 1) × Stops kind (before ++ tail) rest (e .fault)
 
-module _ (kind : TextKind) (read-exact : (t : List ℕ) (f : Frame) (r : List ℕ) → readFrame t ≡ Ok (f, r) → t ≡ lineFor f ++ r)
-    (read-good : (t : List ℕ) (f : Frame) (r : List ℕ) → readFrame t ≡ Ok (f, r) → Good f)
-    (read-back : (f : Frame) (r : List ℕ) → Good f → readFrame (lineFor f ++ r) ≡ Ok (f, r)) where
+module _ (kind : TextKind) where
   longer-run : (before tail : List Frame) (t r rest : List ℕ) (f : Frame) → readFrame t ≡ Ok (f, r) → admitted kind before f ≡ Ok tt → Runs kind (before ++ f ∷ []) r tail rest → Runs kind before t (f ∷ tail) rest
   longer-run before tail t r rest f e a p =
       (read-exact t f r e ∙ ap (λ x. lineFor f ++ x) (p .0) ∙ sym (append-assoc (lineFor f) (textOf tail) rest), (read-good t f r e, p .1), (a, p .2))

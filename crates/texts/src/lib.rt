@@ -1,5 +1,6 @@
 // Whole texts of frames: catalogues of fits and rule books, read into a caller's tables and written from them.
 mod fault;
+mod judge;
 mod seen;
 
 pub use fault::Fault;
