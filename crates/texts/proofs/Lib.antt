@@ -2,3 +2,5 @@ pub mod SummaryLaws
 pub mod LineLaws
 pub mod TurnLaws
 pub mod BookTurns
+pub mod RowLaws
+pub mod FillLaws

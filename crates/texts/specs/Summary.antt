@@ -1,7 +1,9 @@
 -- What a reader keeps of the frames before a line: the words of its private functions.
 use Prim.Native.Nat.{ℕ, _<_, _^_}
-use lib.ListN.{length}
+use lib.ListN.{length, set}
 use mathlib.Core.List.{List}
+use Rattle.std.specs.declared.option.Option.{Option}
+use Rattle.std.specs.declared.option.Option.the-variants.{Some, None}
 use Rattle.std.specs.declared.result.Result.{Result}
 use Rattle.std.specs.declared.result.Result.the-variants.{Ok, Err}
 use Rattle.frames.specs.declared.frame.Frame.{Frame}
@@ -40,3 +42,8 @@ standing kind before (Ok p) = kept p (admitted kind before (p .0))
 
 abbrev pub stepped : TextKind → List Frame → List ℕ → Result (Frame × List ℕ) Fault
 stepped kind before text = standing kind before (asFault (readFrame text))
+
+-- a table with a row, if there is one, put at a place
+abbrev pub placedAt : {R : Type 0} → List R → ℕ → Option R → List R
+placedAt table n None = table
+placedAt table n (Some row) = set table n row

@@ -17,7 +17,7 @@ use frames::Frame;
 use frames::read_frame;
 
 // The frame at the front of a text, where it may come next, together with the text that follows it.
-fn next_frame(kind: TextKind, seen: Seen, text: &[u8]) -> Result<(Frame, &[u8]), Fault>
+pub fn next_frame(kind: TextKind, seen: Seen, text: &[u8]) -> Result<(Frame, &[u8]), Fault>
     ensures { λ r. ⌜ ((fs : List Frame) → seen ≡ seenOf fs → Cases r (λ p. stepped kind fs (now (text .entry)) ≡ Ok (p .0, now (p .1))) (λ e. stepped kind fs (now (text .entry)) ≡ Err e)) ⌝ }
 {
     let (frame, rest) = read_frame(text)?;

@@ -1,6 +1,7 @@
 // Whole texts of frames: catalogues of fits and rule books, read into a caller's tables and written from them.
 mod fault;
 mod judge;
+mod rows;
 mod seen;
 
 pub use fault::Fault;
