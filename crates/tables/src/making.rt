@@ -87,10 +87,8 @@ impl Wish {
         if !row.makes_wish() {
             return Err(RecordFault::OutOfRange);
         }
-        Ok(Wish {
-            rank: row.rank,
-            body: row.body,
-        })
+        let WishRow { rank, body } = row;
+        Ok(Wish { rank, body })
     }
 
     // The row that makes this wish. A wish determines its row and is determined by it.
@@ -98,10 +96,8 @@ impl Wish {
         ensures row { λ r. ⌜ r ≡ wishRow (now (self .entry)) ⌝ }
         ensures faithful { λ _. ⌜ Faithful makesWish wishOf wishRow ⌝ }
     {
-        WishRow {
-            rank: self.rank,
-            body: self.body,
-        }
+        let Wish { rank, body } = *self;
+        WishRow { rank, body }
     }
 }
 
@@ -143,10 +139,8 @@ impl Penalty {
         if !row.makes_penalty() {
             return Err(RecordFault::OutOfRange);
         }
-        Ok(Penalty {
-            level: row.level,
-            condition: row.condition,
-        })
+        let PenaltyRow { level, condition } = row;
+        Ok(Penalty { level, condition })
     }
 
     // The row that makes this penalty. A penalty determines its row and is determined by it.
@@ -154,9 +148,7 @@ impl Penalty {
         ensures row { λ r. ⌜ r ≡ penaltyRow (now (self .entry)) ⌝ }
         ensures faithful { λ _. ⌜ Faithful makesPenalty penaltyOf penaltyRow ⌝ }
     {
-        PenaltyRow {
-            level: self.level,
-            condition: self.condition,
-        }
+        let Penalty { level, condition } = *self;
+        PenaltyRow { level, condition }
     }
 }
