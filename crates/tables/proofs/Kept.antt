@@ -2,12 +2,16 @@
 use Prim.Native.Nat.{ℕ, zero, suc}
 use mathlib.Core.List.{List, [], _∷_, _++_}
 use mathlib.Core.Path.{_≡_, refl, ap, _∙_}
+use native.Mathlib.Omega.{arith}
 use lib.ListN.{replicate}
 use Rattle.std.specs.shelf.Lists.{All}
 use Rattle.std.specs.Options.{Cases}
 use Rattle.std.specs.declared.option.Option.{Option}
 use Rattle.std.specs.declared.option.Option.the-variants.{Some, None}
-use Rattle.tables.specs.Tables.{onto, records, Idle}
+use Rattle.std.specs.declared.result.Result.{Result}
+use Rattle.std.specs.declared.result.Result.the-variants.{Ok, Err}
+use Rattle.literals.specs.declared.record_fault.RecordFault.{RecordFault}
+use Rattle.tables.specs.Tables.{onto, records, orRefused, Idle}
 
 module _ {Row R : Type 0} (of : Row → Option R) (P : R → Type 0) where
   onto-all : (o : Option R) (made : List R) → Cases o (Unit {0}) P → All P made → All P (onto o made)
@@ -46,3 +50,20 @@ module _ {Row R : Type 0} (of : Row → Option R) where
   pub idle : (row : Row) → of row ≡ None → Idle of row
   idle row e [] n = records-none row e n
   idle row e (first ∷ rows) n = ap (onto (of first)) (idle row e rows n)
+
+-- what a maker of records says of its row
+module _ {R : Type 0} where
+  pub made-some : (o : Option R) (x : R) → _≡_ {A = Result R RecordFault} (Ok x) (orRefused o) → o ≡ Some x
+  made-some (Some y) x e = cc
+  made-some None x e = let z : _≡_ {A = ℕ} 0 1 = cc in absurd (omega arith)
+
+  pub made-none : (o : Option R) (fault : RecordFault) → _≡_ {A = Result R RecordFault} (Err fault) (orRefused o) → o ≡ None
+  made-none (Some y) fault e = let z : _≡_ {A = ℕ} 0 1 = cc in absurd (omega arith)
+  made-none None fault e = refl
+
+  -- so a fact of the record, if there is one, is a fact of its row, as `records-all` takes it
+  pub of-made : (P : R → Type 0) (o : Option R) (x : R) → _≡_ {A = Result R RecordFault} (Ok x) (orRefused o) → P x → Cases o (Unit {0}) P
+  of-made P o x e h = rw (made-some o x e) h
+
+  pub of-none : (P : R → Type 0) (o : Option R) (fault : RecordFault) → _≡_ {A = Result R RecordFault} (Err fault) (orRefused o) → Cases o (Unit {0}) P
+  of-none P o fault e = rw (made-none o fault e) tt
