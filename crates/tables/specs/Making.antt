@@ -1,5 +1,5 @@
 -- Which record a row makes, and which row a record has.
-use Prim.Native.Nat.{ℕ, _<_, _≤_, suc-le-suc}
+use Prim.Native.Nat.{ℕ, _≤_, suc-le-suc}
 use mathlib.Core.Bool.{Bool, true, false, _&&_}
 use mathlib.Core.Path.{_≡_, refl}
 use lib.Dec.{leb}
@@ -8,15 +8,12 @@ use Rattle.std.specs.declared.option.Option.{Option}
 use Rattle.std.specs.declared.option.Option.the-variants.{Some, None}
 use Rattle.literals.specs.Sets.{size}
 use Rattle.literals.specs.declared.condition.Condition.{Condition}
-use Rattle.literals.specs.declared.literal.Literal.{Literal}
-use Rattle.literals.specs.declared.literal_set.LiteralSet.{LiteralSet}
 use Rattle.tables.specs.Rows.{within, makesRule, makesWish, makesAlternative, makesPenalty}
 use Rattle.tables.specs.declared.row.RuleRow.{RuleRow}
 use Rattle.tables.specs.declared.row.RuleRow.the-variants as row
 use Rattle.tables.specs.declared.row.WishRow.{WishRow}
 use Rattle.tables.specs.declared.row.AlternativeRow.{AlternativeRow}
 use Rattle.tables.specs.declared.row.PenaltyRow.{PenaltyRow}
-use Rattle.tables.specs.declared.records.Choice.{Choice}
 use Rattle.tables.specs.declared.records.Head.{Head}
 use Rattle.tables.specs.declared.records.Head.the-variants as head
 use Rattle.tables.specs.declared.records.Rule.{Rule}
@@ -29,7 +26,7 @@ abbrev pub tested : {R : Type 0} (b : Bool) → (b ≡ true → R) → Option R
 tested true made = Some (made refl)
 tested false made = None
 
--- the bounds that a test has shown
+-- the bounds that a test has shown, which a record holds in its ghost field
 pub bounds : (low high n : ℕ) → within low high n ≡ true → (low ≤ n) × (n ≤ high)
 bounds low high n e = let p = and-parts (leb low n) (leb n high) e in (leb-true low n (p .0), leb-true n high (p .1))
 
@@ -40,7 +37,7 @@ choice-bounds least greatest number e =
     let q = and-parts (leb least greatest) (leb greatest number) (p .1) in
     (leb-true 1 number (p .0), leb-true least greatest (q .0), leb-true greatest number (q .1))
 
--- Rules.
+-- Rules: the row of one, the rule of a row that passes the test, and of any row, if it makes one. So too below.
 
 abbrev pub headRow : Head → Condition → RuleRow
 headRow (head.Plain literal) body = row.Plain (literal .code) body
