@@ -13,9 +13,14 @@ use literals::LiteralSetPartialEq;
 #[derive(Clone, Copy, PartialEq, Eq, Debug)]
 pub enum RuleRow {
     // the literal of a code is in the set
-    Plain { code: u8, body: Condition },
+    Plain {
+        code: u8,
+        body: Condition,
+    },
     // the body does not hold
-    Constraint { body: Condition },
+    Constraint {
+        body: Condition,
+    },
     // of the head's literals at least `least` and at most `greatest` are in the set
     Choice {
         least: u8,
@@ -55,7 +60,12 @@ impl RuleRow {
         match *self {
             RuleRow::Plain { code, body: _ } => code <= 127,
             RuleRow::Constraint { body: _ } => true,
-            RuleRow::Choice { least, greatest, head, body: _ } => {
+            RuleRow::Choice {
+                least,
+                greatest,
+                head,
+                body: _,
+            } => {
                 let size = head.len();
                 size >= 1 && least <= greatest && u32::from(greatest) <= size
             }

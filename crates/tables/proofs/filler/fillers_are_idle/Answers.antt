@@ -1,0 +1,14 @@
+use mathlib.Core.Path.{refl}
+use Rattle.tables.specs.Making.{ruleOf, wishOf, alternativeOf, penaltyOf}
+use Rattle.tables.proofs.Kept.{idle}
+use Rattle.tables.proofs.filler.fillers_are_idle.Needs as need
+
+pub returns : need.returns
+returns c =
+    record {
+      rules = idle ruleOf _ refl;
+      wishes = idle wishOf _ refl;
+      alternatives = idle alternativeOf _ refl;
+      penalties = idle penaltyOf _ refl;
+      fits = refl;
+    }
