@@ -4,3 +4,4 @@ pub mod TurnLaws
 pub mod BookTurns
 pub mod RowLaws
 pub mod FillLaws
+pub mod ReadLaws

@@ -4,10 +4,10 @@ use native.Mathlib.Omega.{arith}
 use mathlib.Core.Path.{_≡_, refl, sym, ap, _∙_}
 use mathlib.Core.Bool.{Bool, true, false, cond}
 use mathlib.Core.List.{List, [], _∷_, _++_}
-use lib.Dec.{eqb}
+use lib.Dec.{eqb, ltb}
 use lib.ListN.{length}
 use Rattle.std.proofs.shelf.Lists.{nil-from-length}
-use Rattle.std.proofs.shelf.Tests.{eqb-true, eqb-false}
+use Rattle.std.proofs.shelf.Tests.{eqb-true, eqb-false, ltb-false}
 use Rattle.std.specs.declared.option.Option.{Option}
 use Rattle.std.specs.declared.option.Option.the-variants.{Some, None}
 use Rattle.std.specs.declared.result.Result.{Result}
@@ -19,12 +19,12 @@ use Rattle.frames.specs.Digits.{digitFault, bytesOf}
 use Rattle.frames.specs.Frames.{lineOf, behind, judged, withRest, framed, readFrame}
 use Rattle.texts.specs.declared.fault.Fault.{Fault}
 use Rattle.texts.specs.declared.fault.Fault.the-variants as fault
-use Rattle.texts.specs.declared.fault.Fault.the-variants.{Place}
+use Rattle.texts.specs.declared.fault.Fault.the-variants.{Place, TooLong}
 use Rattle.texts.specs.declared.fault.Refusal.{Refusal}
 use Rattle.texts.specs.Places.{ended}
 use Rattle.texts.specs.declared.seen.TextKind.{TextKind}
 use Rattle.texts.specs.Lines.{Line, longer, lines, inLine, frameIn}
-use Rattle.texts.specs.Reading.{refused, andThen, atLine, asFault, admitted, readFrom}
+use Rattle.texts.specs.Reading.{refused, andThen, atLine, asFault, admitted, readFrom, limit, framesIn}
 use Rattle.texts.specs.Summary.{kept, standing, stepped}
 
 pub some-none : {A : Type 0} {x : A} → _≡_ {A = Option A} (Some x) None → ⊥
@@ -177,3 +177,11 @@ nonempty n b e f = let ne = eqb-false n 0 (sym e ∙ f) in omega arith
 
 pub empty : (n : ℕ) (b : Bool) → b ≡ eqb n 0 → b ≡ true → n ≡ 0
 empty n b e f = eqb-true n 0 (sym e ∙ f)
+
+-- a text that is not too long
+limit-at : (d : Bool) (n : ℕ) (r : Result (List Frame) Refusal) (fs : List Frame) → ltb limit n ≡ d → cond d (refused TooLong 0) r ≡ Ok fs → (n ≤ limit) × (r ≡ Ok fs)
+limit-at true n r fs d e = absurd (ok-err (sym e))
+limit-at false n r fs d e = (ltb-false limit n d, e)
+
+pub within-limit : (kind : TextKind) (text : List ℕ) (fs : List Frame) → framesIn kind text ≡ Ok fs → (length text ≤ limit) × (readFrom kind [] (lines text) ≡ Ok fs)
+within-limit kind text fs e = limit-at (ltb limit (length text)) (length text) (readFrom kind [] (lines text)) fs refl e

@@ -100,3 +100,8 @@ rowsOf rows (Err e) = []
 
 abbrev pub overwritten : {A : Type 0} → List A → List A → List A
 overwritten rows table = rows ++ drop (length rows) table
+
+-- how many rows were read
+abbrev pub rowCount : {A : Type 0} → Result (List A) Refusal → Result ℕ Refusal
+rowCount (Ok rows) = Ok (length rows)
+rowCount (Err e) = Err e

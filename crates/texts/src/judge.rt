@@ -6,7 +6,7 @@ ghost use lib.ListN.{length};
 ghost use Rattle.std.specs.Results.{Cases};
 ghost use Rattle.std.specs.declared.result.Result.the-variants.{Ok, Err};
 ghost use Rattle.texts.specs.Lines.{lines};
-ghost use Rattle.texts.specs.Reading.{limit, readFrom};
+ghost use Rattle.texts.specs.Reading.{limit, readFrom, framesIn};
 ghost use Rattle.texts.specs.Summary.{seenOf, stepped};
 use crate::fault::Fault;
 use crate::fault::FrameInFault;
@@ -15,6 +15,9 @@ use crate::seen::Seen;
 use crate::seen::TextKind;
 use frames::Frame;
 use frames::read_frame;
+
+// The longest text, in bytes.
+const LIMIT: usize = 1_048_576;
 
 // The frame at the front of a text, where it may come next, together with the text that follows it.
 pub fn next_frame(kind: TextKind, seen: Seen, text: &[u8]) -> Result<(Frame, &[u8]), Fault>
@@ -25,8 +28,8 @@ pub fn next_frame(kind: TextKind, seen: Seen, text: &[u8]) -> Result<(Frame, &[u
     Ok((frame, rest))
 }
 
-// What has been seen of an accepted text.
-pub fn judge(kind: TextKind, text: &[u8]) -> Result<Seen, Refusal>
+// What has been seen of a text within the limit.
+fn judge(kind: TextKind, text: &[u8]) -> Result<Seen, Refusal>
     requires { ⌜ length (now text) ≤ limit ⌝ }
     ensures { λ r. ⌜ Cases r (λ seen. (fs : List Frame) × (readFrom kind [] (lines (now (text .entry))) ≡ Ok fs) × (seen ≡ seenOf fs)) (λ e. readFrom kind [] (lines (now (text .entry))) ≡ Err e) ⌝ }
 {
@@ -51,4 +54,17 @@ pub fn judge(kind: TextKind, text: &[u8]) -> Result<Seen, Refusal>
         fault: Fault::Place,
         line: seen.frames as u32 + 1,
     })
+}
+
+// What has been seen of an accepted text; a text above the limit is refused before its lines are looked at.
+pub fn accept(kind: TextKind, text: &[u8]) -> Result<Seen, Refusal>
+    ensures { λ r. ⌜ Cases r (λ seen. (fs : List Frame) × (framesIn kind (now (text .entry)) ≡ Ok fs) × (seen ≡ seenOf fs)) (λ e. framesIn kind (now (text .entry)) ≡ Err e) ⌝ }
+{
+    if text.len() > LIMIT {
+        return Err(Refusal {
+            fault: Fault::TooLong,
+            line: 0,
+        });
+    }
+    judge(kind, text)
 }

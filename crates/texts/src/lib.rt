@@ -1,9 +1,11 @@
 // Whole texts of frames: catalogues of fits and rule books, read into a caller's tables and written from them.
+mod catalogue;
 mod fault;
 mod judge;
 mod rows;
 mod seen;
 
+pub use catalogue::read_catalogue;
 pub use fault::Fault;
 pub use fault::FaultDebug;
 pub use fault::FaultPartialEq;

@@ -7,8 +7,7 @@ ghost use lib.ListN.{length, take, drop};
 ghost use Rattle.std.specs.declared.option.Option.{Option};
 ghost use Rattle.std.specs.declared.result.Result.the-variants.{Ok};
 ghost use Rattle.frames.specs.declared.frame.Frame.{Frame};
-ghost use Rattle.texts.specs.Lines.{lines};
-ghost use Rattle.texts.specs.Reading.{limit, readFrom};
+ghost use Rattle.texts.specs.Reading.{framesIn};
 ghost use Rattle.texts.specs.Rows.{onto, rowsIn, overwritten, ruleIn, wishIn, alternativeIn, fitIn};
 ghost use Rattle.texts.specs.Summary.{placedAt};
 use crate::judge::next_frame;
@@ -98,9 +97,8 @@ fn put<R: Copy>(table: &mut [R], count: usize, row: Option<R>) -> usize
 
 // Writes the rows that an accepted text gives at the front of a table.
 pub fn fill<R: FrameRow + Copy>(kind: TextKind, text: &[u8], table: &mut [R])
-    requires short { ⌜ length (now text) ≤ limit ⌝ }
-    requires accepted { ⌜ ((fs : List Frame) × (readFrom kind [] (lines (now text)) ≡ Ok fs) × (length (rowsIn given fs) ≤ length (now table))) ⌝ }
-    ensures { λ _. ⌜ ((fs : List Frame) → readFrom kind [] (lines (now (text .entry))) ≡ Ok fs → now (table .exit) ≡ overwritten (rowsIn given fs) (now (table .entry))) ⌝ }
+    requires { ⌜ ((fs : List Frame) × (framesIn kind (now text) ≡ Ok fs) × (length (rowsIn given fs) ≤ length (now table))) ⌝ }
+    ensures { λ _. ⌜ ((fs : List Frame) → framesIn kind (now (text .entry)) ≡ Ok fs → now (table .exit) ≡ overwritten (rowsIn given fs) (now (table .entry))) ⌝ }
 {
     let mut rest = text;
     let mut seen = Seen::start();

@@ -1,0 +1,138 @@
+-- What an accepted text gives to tables of so many rows.
+use Prim.Native.Nat.{ℕ, _+_, _<_, _≤_}
+use native.Mathlib.Omega.{arith}
+use mathlib.Core.Path.{_≡_, refl, sym, ap, _∙_}
+use mathlib.Core.Bool.{Bool, true, false, cond, _||_}
+use mathlib.Core.List.{List, [], _∷_}
+use mathlib.Core.Logic.{_⊎_, inl, inr}
+use lib.Dec.{ltb}
+use lib.ListN.{length}
+use Rattle.std.proofs.shelf.Tests.{lt-ltb, le-ltb, cond-true, cond-false}
+use Rattle.std.specs.declared.option.Option.{Option}
+use Rattle.std.specs.declared.option.Option.the-variants.{Some, None}
+use Rattle.std.specs.declared.result.Result.{Result}
+use Rattle.std.specs.declared.result.Result.the-variants.{Ok, Err}
+use Rattle.literals.specs.declared.literal_set.LiteralSet.{LiteralSet}
+use Rattle.frames.specs.declared.frame.Frame.{Frame}
+use Rattle.frames.specs.declared.frame.Frame.the-variants.{Rule, RankStep, Wish, Alternative, End, Fit}
+use Rattle.texts.specs.declared.fault.Fault.the-variants.{TableShort}
+use Rattle.texts.specs.declared.fault.Refusal.{Refusal}
+use Rattle.texts.specs.declared.seen.TextKind.the-variants.{Book, Catalogue}
+use Rattle.texts.specs.Places.{isRule, isStep, isWish, isAlternative, isFit, count}
+use Rattle.texts.specs.Reading.{refused, andThen, framesIn}
+use Rattle.texts.specs.Rows.{ruleIn, wishIn, alternativeIn, fitIn, onto, rowsFrom, rowsIn, Tables, tablesOf, readCatalogue, readBook}
+
+onto-length : {R : Type 0} (o : Option R) (rows : List R) → length (onto o rows) ≡ length (onto o []) + length rows
+onto-length None rows = omega arith
+onto-length (Some row) rows = omega arith
+
+-- as many rows as there are frames that give one
+module _ {R : Type 0} (given : ℕ → ℕ → Frame → Option R) (gives : Frame → Bool) (one : (s n : ℕ) (f : Frame) → length (onto (given s n f) []) ≡ cond (gives f) 1 0) where
+  row-count : (s n : ℕ) (fs : List Frame) → length (rowsFrom given s n fs) ≡ count gives fs
+  row-count s n [] = refl
+  row-count s n (f ∷ fs) =
+      let later = rowsFrom given (s + cond (isStep f) 1 0) (n + cond (isWish f) 1 0) fs in
+      let rest = row-count (s + cond (isStep f) 1 0) (n + cond (isWish f) 1 0) fs in
+      let here = one s n f in onto-length (given s n f) later ∙ omega arith
+
+one-rule : (s n : ℕ) (f : Frame) → length (onto (ruleIn s n f) []) ≡ cond (isRule f) 1 0
+one-rule s n (Rule row) = refl
+one-rule s n RankStep = refl
+one-rule s n (Wish body) = refl
+one-rule s n (Alternative level condition) = refl
+one-rule s n (End k) = refl
+one-rule s n (Fit set) = refl
+
+one-wish : (s n : ℕ) (f : Frame) → length (onto (wishIn s n f) []) ≡ cond (isWish f) 1 0
+one-wish s n (Rule row) = refl
+one-wish s n RankStep = refl
+one-wish s n (Wish body) = refl
+one-wish s n (Alternative level condition) = refl
+one-wish s n (End k) = refl
+one-wish s n (Fit set) = refl
+
+one-alternative : (s n : ℕ) (f : Frame) → length (onto (alternativeIn s n f) []) ≡ cond (isAlternative f) 1 0
+one-alternative s n (Rule row) = refl
+one-alternative s n RankStep = refl
+one-alternative s n (Wish body) = refl
+one-alternative s n (Alternative level condition) = refl
+one-alternative s n (End k) = refl
+one-alternative s n (Fit set) = refl
+
+one-fit : (s n : ℕ) (f : Frame) → length (onto (fitIn s n f) []) ≡ cond (isFit f) 1 0
+one-fit s n (Rule row) = refl
+one-fit s n RankStep = refl
+one-fit s n (Wish body) = refl
+one-fit s n (Alternative level condition) = refl
+one-fit s n (End k) = refl
+one-fit s n (Fit set) = refl
+
+pub rule-count : (fs : List Frame) → length (rowsIn ruleIn fs) ≡ count isRule fs
+rule-count fs = row-count ruleIn isRule one-rule 0 0 fs
+
+pub wish-count : (fs : List Frame) → length (rowsIn wishIn fs) ≡ count isWish fs
+wish-count fs = row-count wishIn isWish one-wish 0 0 fs
+
+pub alternative-count : (fs : List Frame) → length (rowsIn alternativeIn fs) ≡ count isAlternative fs
+alternative-count fs = row-count alternativeIn isAlternative one-alternative 0 0 fs
+
+pub fit-count : (fs : List Frame) → length (rowsIn fitIn fs) ≡ count isFit fs
+fit-count fs = row-count fitIn isFit one-fit 0 0 fs
+
+module _ (text : List ℕ) (room : ℕ) (fs : List Frame) (e : framesIn Catalogue text ≡ Ok fs) where
+  roomy : Result (List Frame) Refusal → Result (List LiteralSet) Refusal
+  roomy r = andThen (andThen r (λ gs. Ok (rowsIn fitIn gs))) (λ rows. cond (ltb room (length rows)) (refused TableShort 0) (Ok rows))
+
+  pub catalogue-short : room < length (rowsIn fitIn fs) → readCatalogue text room ≡ refused TableShort 0
+  unfolding roomy
+  catalogue-short h = ap roomy e ∙ cond-true _ _ _ (lt-ltb room (length (rowsIn fitIn fs)) h)
+
+  pub catalogue-read : length (rowsIn fitIn fs) ≤ room → readCatalogue text room ≡ Ok (rowsIn fitIn fs)
+  unfolding roomy
+  catalogue-read h = ap roomy e ∙ cond-false _ _ _ (le-ltb room (length (rowsIn fitIn fs)) h)
+
+pub catalogue-refused : (text : List ℕ) (room : ℕ) (x : Refusal) → framesIn Catalogue text ≡ Err x → readCatalogue text room ≡ Err x
+catalogue-refused text room x e = ap (λ r. andThen (andThen r (λ gs. Ok (rowsIn fitIn gs))) (λ rows. cond (ltb room (length rows)) (refused TableShort 0) (Ok rows))) e
+
+-- a table is too short where one of the three is
+any-short : (a b c : Bool) → (a ≡ true) ⊎ ((b ≡ true) ⊎ (c ≡ true)) → a || (b || c) ≡ true
+any-short true b c p = refl
+any-short false true c p = refl
+any-short false false true p = refl
+any-short false false false (inl p) = p
+any-short false false false (inr (inl p)) = p
+any-short false false false (inr (inr p)) = p
+
+none-short : (a b c : Bool) → a ≡ false → b ≡ false → c ≡ false → a || (b || c) ≡ false
+none-short true b c p q r = p
+none-short false true c p q r = q
+none-short false false c p q r = r
+
+module _ (text : List ℕ) (rules wishes alternatives : ℕ) (fs : List Frame) (e : framesIn Book text ≡ Ok fs) where
+  abbrev t : Tables
+  t = tablesOf fs
+
+  in-tables : Result (List Frame) Refusal → Result Tables Refusal
+  in-tables r =
+      andThen (andThen r (λ gs. Ok (tablesOf gs)))
+      (λ u. cond (ltb rules (length (u .rules)) || (ltb wishes (length (u .wishes)) || ltb alternatives (length (u .alternatives)))) (refused TableShort 0) (Ok u))
+
+  pub book-short : (rules < length (t .rules)) ⊎ ((wishes < length (t .wishes)) ⊎ (alternatives < length (t .alternatives))) → readBook text rules wishes alternatives ≡ refused TableShort 0
+  unfolding in-tables
+  book-short p =
+      ap in-tables e ∙ cond-true _ _ _ (any-short (ltb rules (length (t .rules))) (ltb wishes (length (t .wishes))) (ltb alternatives (length (t .alternatives))) (shorts p))
+    where
+      shorts : (rules < length (t .rules)) ⊎ ((wishes < length (t .wishes)) ⊎ (alternatives < length (t .alternatives))) → (ltb rules (length (t .rules)) ≡ true) ⊎ ((ltb wishes (length (t .wishes)) ≡ true) ⊎ (ltb alternatives (length (t .alternatives)) ≡ true))
+      shorts (inl h) = inl (lt-ltb rules (length (t .rules)) h)
+      shorts (inr (inl h)) = inr (inl (lt-ltb wishes (length (t .wishes)) h))
+      shorts (inr (inr h)) = inr (inr (lt-ltb alternatives (length (t .alternatives)) h))
+
+  pub book-read : length (t .rules) ≤ rules → length (t .wishes) ≤ wishes → length (t .alternatives) ≤ alternatives → readBook text rules wishes alternatives ≡ Ok t
+  unfolding in-tables
+  book-read h k l =
+      ap in-tables e
+      ∙ cond-false _ _ _ (none-short (ltb rules (length (t .rules))) (ltb wishes (length (t .wishes))) (ltb alternatives (length (t .alternatives))) (le-ltb rules (length (t .rules)) h) (le-ltb wishes (length (t .wishes)) k) (le-ltb alternatives (length (t .alternatives)) l))
+
+pub book-refused : (text : List ℕ) (rules wishes alternatives : ℕ) (x : Refusal) → framesIn Book text ≡ Err x → readBook text rules wishes alternatives ≡ Err x
+book-refused text rules wishes alternatives x e =
+    ap (λ r. andThen (andThen r (λ gs. Ok (tablesOf gs))) (λ u. cond (ltb rules (length (u .rules)) || (ltb wishes (length (u .wishes)) || ltb alternatives (length (u .alternatives)))) (refused TableShort 0) (Ok u))) e
