@@ -4,10 +4,9 @@ use native.Mathlib.Omega.{arith}
 use mathlib.Core.Path.{_≡_, refl, sym, ap, _∙_}
 use mathlib.Core.Bool.{Bool, true, false, cond, _||_}
 use mathlib.Core.List.{List, [], _∷_}
-use mathlib.Core.Logic.{_⊎_, inl, inr}
 use lib.Dec.{ltb}
 use lib.ListN.{length}
-use Rattle.std.proofs.shelf.Tests.{lt-ltb, le-ltb, cond-true, cond-false}
+use Rattle.std.proofs.shelf.Tests.{lt-ltb, le-ltb, ltb-false, cond-true, cond-false, or-parts}
 use Rattle.std.specs.declared.option.Option.{Option}
 use Rattle.std.specs.declared.option.Option.the-variants.{Some, None}
 use Rattle.std.specs.declared.result.Result.{Result}
@@ -17,7 +16,9 @@ use Rattle.frames.specs.declared.frame.Frame.{Frame}
 use Rattle.frames.specs.declared.frame.Frame.the-variants.{Rule, RankStep, Wish, Alternative, End, Fit}
 use Rattle.texts.specs.declared.fault.Fault.the-variants.{TableShort}
 use Rattle.texts.specs.declared.fault.Refusal.{Refusal}
+use Rattle.texts.specs.declared.seen.Seen.{Seen}
 use Rattle.texts.specs.declared.seen.TextKind.the-variants.{Book, Catalogue}
+use Rattle.texts.specs.Summary.{seenOf}
 use Rattle.texts.specs.Places.{isRule, isStep, isWish, isAlternative, isFit, count}
 use Rattle.texts.specs.Reading.{refused, andThen, framesIn}
 use Rattle.texts.specs.Rows.{ruleIn, wishIn, alternativeIn, fitIn, onto, rowsFrom, rowsIn, Tables, tablesOf, readCatalogue, readBook}
@@ -91,48 +92,43 @@ module _ (text : List ℕ) (room : ℕ) (fs : List Frame) (e : framesIn Catalogu
   unfolding roomy
   catalogue-read h = ap roomy e ∙ cond-false _ _ _ (le-ltb room (length (rowsIn fitIn fs)) h)
 
-pub catalogue-refused : (text : List ℕ) (room : ℕ) (x : Refusal) → framesIn Catalogue text ≡ Err x → readCatalogue text room ≡ Err x
-catalogue-refused text room x e = ap (λ r. andThen (andThen r (λ gs. Ok (rowsIn fitIn gs))) (λ rows. cond (ltb room (length rows)) (refused TableShort 0) (Ok rows))) e
+-- whether one of three tables is too short
+abbrev lacking : ℕ → ℕ → ℕ → ℕ → ℕ → ℕ → Bool
+lacking rules wishes alternatives r w a = ltb rules r || (ltb wishes w || ltb alternatives a)
 
--- a table is too short where one of the three is
-any-short : (a b c : Bool) → (a ≡ true) ⊎ ((b ≡ true) ⊎ (c ≡ true)) → a || (b || c) ≡ true
-any-short true b c p = refl
-any-short false true c p = refl
-any-short false false true p = refl
-any-short false false false (inl p) = p
-any-short false false false (inr (inl p)) = p
-any-short false false false (inr (inr p)) = p
-
-none-short : (a b c : Bool) → a ≡ false → b ≡ false → c ≡ false → a || (b || c) ≡ false
-none-short true b c p q r = p
-none-short false true c p q r = q
-none-short false false c p q r = r
-
-module _ (text : List ℕ) (rules wishes alternatives : ℕ) (fs : List Frame) (e : framesIn Book text ≡ Ok fs) where
+module _ (text : List ℕ) (rules wishes alternatives : ℕ) (fs : List Frame) (seen : Seen) (known : seen ≡ seenOf fs) (e : framesIn Book text ≡ Ok fs) where
   abbrev t : Tables
   t = tablesOf fs
 
   in-tables : Result (List Frame) Refusal → Result Tables Refusal
   in-tables r =
       andThen (andThen r (λ gs. Ok (tablesOf gs)))
-      (λ u. cond (ltb rules (length (u .rules)) || (ltb wishes (length (u .wishes)) || ltb alternatives (length (u .alternatives)))) (refused TableShort 0) (Ok u))
+      (λ u. cond (lacking rules wishes alternatives (length (u .rules)) (length (u .wishes)) (length (u .alternatives))) (refused TableShort 0) (Ok u))
 
-  pub book-short : (rules < length (t .rules)) ⊎ ((wishes < length (t .wishes)) ⊎ (alternatives < length (t .alternatives))) → readBook text rules wishes alternatives ≡ refused TableShort 0
+  -- how long the tables of the text are
+  pub book-sizes : (length (t .rules) ≡ seen .rules) × (length (t .wishes) ≡ seen .wishes) × (length (t .alternatives) ≡ seen .alternatives)
+  book-sizes = (
+    rule-count fs ∙ sym (ap (λ s. s .rules) known),
+    wish-count fs ∙ sym (ap (λ s. s .wishes) known),
+    alternative-count fs ∙ sym (ap (λ s. s .alternatives) known),
+  )
+
+  same-test : lacking rules wishes alternatives (length (t .rules)) (length (t .wishes)) (length (t .alternatives)) ≡ lacking rules wishes alternatives (seen .rules) (seen .wishes) (seen .alternatives)
+  same-test =
+      ap (λ k. lacking rules wishes alternatives k (length (t .wishes)) (length (t .alternatives))) (book-sizes .0)
+      ∙ ap (λ k. lacking rules wishes alternatives (seen .rules) k (length (t .alternatives))) (book-sizes .1) ∙ ap (lacking rules wishes alternatives (seen .rules) (seen .wishes)) (book-sizes .2)
+
+  pub book-short : lacking rules wishes alternatives (seen .rules) (seen .wishes) (seen .alternatives) ≡ true → readBook text rules wishes alternatives ≡ refused TableShort 0
   unfolding in-tables
-  book-short p =
-      ap in-tables e ∙ cond-true _ _ _ (any-short (ltb rules (length (t .rules))) (ltb wishes (length (t .wishes))) (ltb alternatives (length (t .alternatives))) (shorts p))
-    where
-      shorts : (rules < length (t .rules)) ⊎ ((wishes < length (t .wishes)) ⊎ (alternatives < length (t .alternatives))) → (ltb rules (length (t .rules)) ≡ true) ⊎ ((ltb wishes (length (t .wishes)) ≡ true) ⊎ (ltb alternatives (length (t .alternatives)) ≡ true))
-      shorts (inl h) = inl (lt-ltb rules (length (t .rules)) h)
-      shorts (inr (inl h)) = inr (inl (lt-ltb wishes (length (t .wishes)) h))
-      shorts (inr (inr h)) = inr (inr (lt-ltb alternatives (length (t .alternatives)) h))
+  book-short h = ap in-tables e ∙ cond-true _ _ _ (same-test ∙ h)
 
-  pub book-read : length (t .rules) ≤ rules → length (t .wishes) ≤ wishes → length (t .alternatives) ≤ alternatives → readBook text rules wishes alternatives ≡ Ok t
+  pub book-read : lacking rules wishes alternatives (seen .rules) (seen .wishes) (seen .alternatives) ≡ false → readBook text rules wishes alternatives ≡ Ok t
   unfolding in-tables
-  book-read h k l =
-      ap in-tables e
-      ∙ cond-false _ _ _ (none-short (ltb rules (length (t .rules))) (ltb wishes (length (t .wishes))) (ltb alternatives (length (t .alternatives))) (le-ltb rules (length (t .rules)) h) (le-ltb wishes (length (t .wishes)) k) (le-ltb alternatives (length (t .alternatives)) l))
+  book-read h = ap in-tables e ∙ cond-false _ _ _ (same-test ∙ h)
 
-pub book-refused : (text : List ℕ) (rules wishes alternatives : ℕ) (x : Refusal) → framesIn Book text ≡ Err x → readBook text rules wishes alternatives ≡ Err x
-book-refused text rules wishes alternatives x e =
-    ap (λ r. andThen (andThen r (λ gs. Ok (tablesOf gs))) (λ u. cond (ltb rules (length (u .rules)) || (ltb wishes (length (u .wishes)) || ltb alternatives (length (u .alternatives)))) (refused TableShort 0) (Ok u))) e
+  pub book-room : lacking rules wishes alternatives (seen .rules) (seen .wishes) (seen .alternatives) ≡ false → (length (t .rules) ≤ rules) × (length (t .wishes) ≤ wishes) × (length (t .alternatives) ≤ alternatives)
+  book-room h =
+      let p = or-parts (ltb rules (seen .rules)) (ltb wishes (seen .wishes) || ltb alternatives (seen .alternatives)) h in
+      let q = or-parts (ltb wishes (seen .wishes)) (ltb alternatives (seen .alternatives)) (p .1) in
+      let sizes = book-sizes in
+      (omega (arith, ltb-false rules (seen .rules) (p .0)), omega (arith, ltb-false wishes (seen .wishes) (q .0)), omega (arith, ltb-false alternatives (seen .alternatives) (q .1)))

@@ -15,6 +15,7 @@ use Rattle.tables.specs.declared.row.AlternativeRow.{AlternativeRow}
 use Rattle.frames.specs.declared.frame.Frame.{Frame}
 use Rattle.frames.specs.declared.frame.Frame.the-variants.{Rule, RankStep, Wish, Alternative, End, Fit}
 use Rattle.texts.specs.declared.fault.Fault.the-variants.{TableShort}
+use Rattle.texts.specs.declared.book_size.BookSize.{BookSize}
 use Rattle.texts.specs.declared.fault.Refusal.{Refusal}
 use Rattle.texts.specs.declared.seen.TextKind.the-variants.{Book, Catalogue}
 use Rattle.texts.specs.Places.{isStep, isWish}
@@ -105,3 +106,11 @@ overwritten rows table = rows ++ drop (length rows) table
 abbrev pub rowCount : {A : Type 0} → Result (List A) Refusal → Result ℕ Refusal
 rowCount (Ok rows) = Ok (length rows)
 rowCount (Err e) = Err e
+
+-- how many rows were read into each table
+abbrev pub sizeOf : Tables → BookSize
+sizeOf t = record { rules = length (t .rules); wishes = length (t .wishes); alternatives = length (t .alternatives) }
+
+abbrev pub bookCount : Result Tables Refusal → Result BookSize Refusal
+bookCount (Ok t) = Ok (sizeOf t)
+bookCount (Err e) = Err e

@@ -1,10 +1,16 @@
 // Whole texts of frames: catalogues of fits and rule books, read into a caller's tables and written from them.
+mod book;
+mod book_size;
 mod catalogue;
 mod fault;
 mod judge;
 mod rows;
 mod seen;
 
+pub use book::read_book;
+pub use book_size::BookSize;
+pub use book_size::BookSizeDebug;
+pub use book_size::BookSizePartialEq;
 pub use catalogue::read_catalogue;
 pub use fault::Fault;
 pub use fault::FaultDebug;

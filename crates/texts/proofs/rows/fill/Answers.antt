@@ -39,7 +39,7 @@ loop-frame-again g c =
     let (short, ok) = within-limit (c .args .kind) (c .args .text .now) whole all in
     let step = c .in-Ok .ensures tt fs (going .known) in
     let fits = fill-room going ok step (c .of-frame .ensures) room (c .loop-frame .kept .table) in
-    (fs ++ c .in-Ok .frame ∷ [], fill-again going ok step (c .of-frame .ensures) (c .put-count .ensures .number) (omega (arith, c .put-count .ensures .number)) (c .after-seen .ensures fs (going .known)) (c .put-count .ensures .table))
+    (fs ++ c .in-Ok .frame ∷ [], fill-again going ok step {table′ = c .put-count .last .table} (c .of-frame .ensures) (c .put-count .ensures .number) (omega (arith, c .put-count .ensures .number)) (c .after-seen .ensures fs (going .known)) (c .put-count .ensures .table))
 
 pub returns : need.returns
 returns g c = λ whole all.
