@@ -4,3 +4,4 @@ pub mod DigitLaws
 pub mod KindLaws
 pub mod FrameLaws
 pub mod LineLaws
+pub mod WriteLaws

@@ -3,6 +3,7 @@ mod answer_frames;
 mod frame;
 mod hex;
 mod reader;
+mod writer;
 
 pub use answer_frames::WriteFault;
 pub use answer_frames::WriteFaultDebug;
