@@ -14,7 +14,9 @@ use Rattle.std.specs.declared.option.Option.the-variants.{Some, None}
 use Rattle.std.proofs.shelf.Lists.{append-assoc, append-nil, length-append, length-drop, take-at, take-all, take-rest, take-more, drop-at, drop-all, drop-drop, drop-more, set-at, length-take-le, joined-more}
 use Rattle.std.proofs.shelf.Tests.{le-ltb, lt-ltb, cond-true, cond-false}
 use Rattle.frames.specs.Digits.{hexOf}
-use Rattle.frames.specs.Frames.{total, sealed, wordBytes, lineWith, overwritten, wroteIn, writtenIn}
+use Rattle.literals.specs.declared.literal_set.LiteralSet.{LiteralSet}
+use Rattle.literals.specs.declared.condition.Condition.{Condition}
+use Rattle.frames.specs.Frames.{total, sealed, wordBytes, setBytes, conditionBytes, lineWith, overwritten, wroteIn, writtenIn}
 use Rattle.frames.proofs.HexLaws.{length-hexOf, hexOf-append}
 use Rattle.frames.proofs.WordLaws.{length-wordBytes}
 
@@ -134,3 +136,18 @@ module _ (head body first : List ℕ) (e : first ≡ head ++ drop (length head) 
 
 pub head-put : (head body part : List ℕ) → part ≡ head → part ++ drop (length head - 0) (drop 0 body) ≡ head ++ drop (length head) body
 head-put head body part e = let n : length head - 0 ≡ length head = omega arith in λ i. e i ++ drop (n i) body
+
+-- the words of sets and conditions
+pub set-words : (s : LiteralSet) → joined (wordBytes 8) (s .plus ∷ s .minus ∷ []) ≡ setBytes s
+set-words s = refl
+
+pub condition-words : (c : Condition) (ws : List ℕ) → ws ≡ c .wanted .plus ∷ c .wanted .minus ∷ c .absent .plus ∷ c .absent .minus ∷ [] → joined (wordBytes 8) ws ≡ conditionBytes c
+condition-words c ws e = ap (joined (wordBytes 8)) e
+
+pub choice-words : (s : LiteralSet) (c : Condition) (ws : List ℕ) → ws ≡ c .wanted .plus ∷ c .wanted .minus ∷ c .absent .plus ∷ c .absent .minus ∷ []
+    → joined (wordBytes 8) (s .plus ∷ s .minus ∷ getD ws 0 0 ∷ getD ws 1 0 ∷ getD ws 2 0 ∷ getD ws 3 0 ∷ []) ≡ setBytes s ++ conditionBytes c
+choice-words s c ws e = ap (λ l. joined (wordBytes 8) (s .plus ∷ s .minus ∷ getD l 0 0 ∷ getD l 1 0 ∷ getD l 2 0 ∷ getD l 3 0 ∷ [])) e
+
+-- a line that is written under another name
+pub same-line : (line line′ out out′ : List ℕ) (r : Option ℕ) → line ≡ line′ → r ≡ wroteIn line out → out′ ≡ writtenIn line out → (r ≡ wroteIn line′ out) × (out′ ≡ writtenIn line′ out)
+same-line line line′ out out′ r e p q = (p ∙ ap (λ l. wroteIn l out) e, q ∙ ap (λ l. writtenIn l out) e)

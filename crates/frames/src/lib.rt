@@ -19,3 +19,5 @@ pub use frame::FrameFaultDebug;
 pub use frame::FrameFaultPartialEq;
 pub use frame::FramePartialEq;
 pub use reader::read_frame;
+pub use writer::line_length;
+pub use writer::write_frame;
