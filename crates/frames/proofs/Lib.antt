@@ -6,3 +6,4 @@ pub mod FrameLaws
 pub mod LineLaws
 pub mod WriteLaws
 pub mod AnswerLaws
+pub mod FaultLaws
