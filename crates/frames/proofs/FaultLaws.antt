@@ -1,5 +1,5 @@
 -- Each number of a fault means what it says.
-use Prim.Native.Nat.{ℕ, zero, suc, _+_, _-_, _*_, _/_, _%_, _<_, _≤_}
+use Prim.Native.Nat.{ℕ, suc, _+_, _%_, _<_, _≤_}
 use native.Mathlib.Nat.{zero-add}
 use native.Mathlib.Omega.{arith}
 use mathlib.Core.Path.{_≡_, refl, sym, ap, _∙_}
@@ -13,18 +13,18 @@ use Rattle.std.specs.declared.option.Option.the-variants.{Some, None}
 use Rattle.std.specs.declared.result.Result.{Result}
 use Rattle.std.specs.declared.result.Result.the-variants.{Ok, Err}
 use Rattle.std.proofs.shelf.Lists.{same-from-push, length-push}
-use Rattle.std.proofs.shelf.Tests.{eqb-true, eqb-false, ltb-true, cond-true, cond-false, false≢true, cases-bool}
+use Rattle.std.proofs.shelf.Tests.{eqb-true, eqb-false, ltb-true, cond-true, cond-false, false≢true}
 use Rattle.frames.specs.declared.frame.DigitFault.{DigitFault}
 use Rattle.frames.specs.declared.frame.DigitFault.the-variants.{BadByte, Odd, Few}
 use Rattle.frames.specs.declared.frame.Frame.{Frame}
 use Rattle.frames.specs.declared.frame.FrameFault.{FrameFault}
-use Rattle.frames.specs.declared.frame.FrameFault.the-variants.{Digits, Check, Kind, Field}
-use Rattle.frames.specs.Digits.{isDigit, allDigits, bytesOf, firstBad, countFault, orElse, digitFault}
-use Rattle.frames.specs.Frames.{total, frameBytes, lineFor, said, makesRecord, inRange, parsed, checkedFrom, bodyOf, framed, sealed, lineOf, behind, withRest, judged, readFrame, numberOf, FrameFits, Good}
+use Rattle.frames.specs.declared.frame.FrameFault.the-variants.{Check, Kind, Field}
+use Rattle.frames.specs.Digits.{isDigit, bytesOf, firstBad, countFault, orElse, digitFault}
+use Rattle.frames.specs.Frames.{total, frameBytes, said, makesRecord, inRange, parsed, checkedFrom, bodyOf, framed, sealed, lineOf, behind, withRest, judged, readFrame, numberOf}
 use Rattle.frames.specs.Faults.{lengthOf, BadDigits, WrongCheck, UnknownKind, WrongField, Refused, Exactly, FaultsStand}
 use Rattle.frames.proofs.HexLaws.{faultless, digit-at, length-bytesOf}
 use Rattle.frames.proofs.WordLaws.{Bytes}
-use Rattle.frames.proofs.DigitLaws.{some-none, ok-err, ok-same, err-same, bytes-small, body-small}
+use Rattle.frames.proofs.DigitLaws.{some-none, ok-err, bytes-small, body-small}
 use Rattle.frames.proofs.KindLaws.{Told, told}
 use Rattle.frames.proofs.LineLaws.{framed-fits, read-exact, read-good, read-back, checked-sealed}
 
@@ -220,5 +220,5 @@ faults-stand t = record {
   check = check-means t (outcome t);
   kind = kind-means t (outcome t);
   field = field-means t (outcome t);
-  frame = λ f rest. (λ e. (read-exact t f rest e, read-good t f rest e), λ (e, g). ap readFrame e ∙ read-back f rest g)
+  frame = λ f rest. (λ e. (read-exact t f rest e, read-good t f rest e), λ (e, g). ap readFrame e ∙ read-back f rest g);
 }

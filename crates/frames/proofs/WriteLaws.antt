@@ -1,12 +1,10 @@
 -- Laws of writing.
-use Prim.Native.Nat.{ℕ, zero, suc, _+_, _-_, _*_, _/_, _%_, _<_, _≤_}
+use Prim.Native.Nat.{ℕ, _+_, _-_, _*_, _%_, _<_, _≤_}
 use native.Mathlib.Nat.{le-refl, mul-suc}
 use native.Mathlib.Omega.{arith}
 use mathlib.Core.Path.{_≡_, refl, sym, ap, _∙_}
-use mathlib.Core.Bool.{Bool, true, false, cond, _&&_}
 use mathlib.Core.List.{List, [], _∷_, _++_}
 use borrow.Rule.Slice.PartMut.{putMid}
-use lib.Dec.{leb, ltb, eqb}
 use lib.ListN.{length, getD, set, take, drop}
 use Rattle.std.specs.Joined.{joined}
 use Rattle.std.specs.declared.option.Option.{Option}
@@ -151,3 +149,12 @@ choice-words s c ws e = ap (λ l. joined (wordBytes 8) (s .plus ∷ s .minus ∷
 -- a line that is written under another name
 pub same-line : (line line′ out out′ : List ℕ) (r : Option ℕ) → line ≡ line′ → r ≡ wroteIn line out → out′ ≡ writtenIn line out → (r ≡ wroteIn line′ out) × (out′ ≡ writtenIn line′ out)
 same-line line line′ out out′ r e p q = (p ∙ ap (λ l. wroteIn l out) e, q ∙ ap (λ l. writtenIn l out) e)
+
+-- a line written into the tail behind a front
+module _ (line front back out : List ℕ) (n : ℕ) (e : out ≡ front ++ back) (l : length front ≡ n) (room : length line ≤ length back) where
+  pub line-count : (r : Option ℕ) → r ≡ wroteIn line (take (length out - n) (drop n out)) → r ≡ Some (length line)
+  line-count r w = w ∙ ap (wroteIn line) (tail-is out front back n e l) ∙ sym (room-result line back room)
+
+  pub line-after : (last : List ℕ) → last ≡ writtenIn line (take (length out - n) (drop n out)) → putMid n (length out - n) out last ≡ (front ++ line) ++ drop (length line) back
+  line-after last w =
+      tail-written out last front back n e l ∙ ap (λ t. front ++ t) (w ∙ ap (writtenIn line) (tail-is out front back n e l) ∙ sym (room-buffer line back room)) ∙ sym (append-assoc front line (drop (length line) back))

@@ -12,7 +12,7 @@ use literals::Condition;
 use tables::RuleRow;
 
 // The longest kind and fields of a frame that is read, in bytes.
-const LONGEST: usize = 51;
+const LONGEST_BODY: usize = 51;
 
 // The sum of bytes modulo 251.
 fn check_byte(body: &[u8]) -> u8
@@ -26,7 +26,7 @@ fn check_byte(body: &[u8]) -> u8
 }
 
 // Writes the line of a kind and fields at the front of `out`, and leaves what is behind it; nothing where there is no room.
-pub fn write_line(body: &[u8], out: &mut [u8]) -> Option<usize>
+pub(crate) fn write_line(body: &[u8], out: &mut [u8]) -> Option<usize>
     requires { ⌜ length (now body) ≤ 512 ⌝ }
     ensures result { λ r. ⌜ r ≡ wroteIn (lineWith (sealed (now (body .entry)))) (now (out .entry)) ⌝ }
     ensures buffer { λ _. ⌜ now (out .exit) ≡ writtenIn (lineWith (sealed (now (body .entry)))) (now (out .entry)) ⌝ }
@@ -72,7 +72,7 @@ fn write_fields(head: &[u8], words: &[u64], out: &mut [u8]) -> Option<usize>
     ensures result { λ r. ⌜ r ≡ wroteIn (lineWith (sealed (now (head .entry) ++ joined (wordBytes 8) (now (words .entry))))) (now (out .entry)) ⌝ }
     ensures buffer { λ _. ⌜ now (out .exit) ≡ writtenIn (lineWith (sealed (now (head .entry) ++ joined (wordBytes 8) (now (words .entry))))) (now (out .entry)) ⌝ }
 {
-    let mut buffer = [0; LONGEST];
+    let mut buffer = [0; LONGEST_BODY];
     write_in(head, words, &mut buffer, out)
 }
 
@@ -99,7 +99,11 @@ fn write_rule(row: RuleRow, out: &mut [u8]) -> Option<usize>
             body,
         } => {
             let [a, b, c, d] = condition_words(body);
-            write_fields(&[0x03, least, greatest], &[head.plus, head.minus, a, b, c, d], out)
+            write_fields(
+                &[0x03, least, greatest],
+                &[head.plus, head.minus, a, b, c, d],
+                out,
+            )
         }
     }
 }
@@ -131,12 +135,14 @@ pub fn line_length(frame: Frame) -> usize
     match frame {
         Frame::Rule(RuleRow::Plain { code: _, body: _ }) => 71,
         Frame::Rule(RuleRow::Constraint { body: _ }) => 69,
-        Frame::Rule(RuleRow::Choice {
-            least: _,
-            greatest: _,
-            head: _,
-            body: _,
-        }) => 105,
+        Frame::Rule(
+            RuleRow::Choice {
+                least: _,
+                greatest: _,
+                head: _,
+                body: _,
+            },
+        ) => 105,
         Frame::RankStep => 5,
         Frame::Wish(_) => 69,
         Frame::Alternative {

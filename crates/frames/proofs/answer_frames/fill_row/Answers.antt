@@ -1,9 +1,9 @@
 use borrow.Author.Needs.{needs}
-use Prim.Native.Nat.{_+_, _*_, _≤_}
+use Prim.Native.Nat.{_*_}
 use native.Mathlib.Omega.{arith}
 use mathlib.Core.List.{_++_, _∷_, []}
-use mathlib.Core.Path.{_≡_, refl, sym, ap, _∙_}
-use lib.ListN.{length, drop, getD}
+use mathlib.Core.Path.{refl, ap, _∙_}
+use lib.ListN.{length, getD}
 use Rattle.std.specs.Joined.{joined}
 use Rattle.frames.specs.Frames.{wordBytes}
 use Rattle.frames.proofs.AnswerLaws.{small-column, two-first}
@@ -23,7 +23,7 @@ cast-column c =
 pub loop-column-again : need.loop-column-again
 loop-column-again c = (
   chunk-more 2 (49 ∷ length (c .args .columns .now) ∷ []) (c .args .columns .now) _ (c .loop-column .body) (c .loop-column .column-index) (c .loop-column .at) (c .loop-column .inv .0) (c .loop-column .inv .1) (c .copy-from-slice .last .self) (omega arith)
-  (c .copy-from-slice .ensures .after ∙ be-pair (getD (c .args .columns .now) (c .loop-column .column-index) 0) (c .to-be-bytes .result) (c .to-be-bytes .ensures)),
+      (c .copy-from-slice .ensures .after ∙ be-pair (getD (c .args .columns .now) (c .loop-column .column-index) 0) (c .to-be-bytes .result) (c .to-be-bytes .ensures)),
   omega (arith, c .loop-column .inv .1),
 )
 

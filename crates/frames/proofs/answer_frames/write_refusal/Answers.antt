@@ -1,5 +1,5 @@
 use mathlib.Core.List.{_∷_, []}
-use mathlib.Core.Path.{_≡_, ap, _∙_}
+use mathlib.Core.Path.{ap, _∙_}
 use lib.ListN.{getD}
 use Rattle.std.specs.Options.{okOr}
 use Rattle.frames.specs.declared.answer_frames.WriteFault.the-variants.{BufferShort}

@@ -1,6 +1,6 @@
 use Prim.Native.Nat.{_+_, _*_}
 use mathlib.Core.List.{_++_, _∷_, []}
-use mathlib.Core.Path.{_≡_, ap, _∙_}
+use mathlib.Core.Path.{ap, _∙_}
 use lib.ListN.{length}
 use Rattle.std.specs.Joined.{joined}
 use Rattle.frames.specs.Frames.{wordBytes, sealed, lineWith, wroteIn, writtenIn}
@@ -15,5 +15,5 @@ returns c =
     let front = filled-front (head ++ joined (wordBytes 2) columns) (c .fill-row .last .body) _ (2 + 2 * length columns) (c .fill-row .ensures) (body-long 2 head columns) in
     record {
       result = c .write-line .ensures .result ∙ ap (λ b. wroteIn (lineWith (sealed b)) out) front;
-      buffer = c .write-line .ensures .buffer ∙ ap (λ b. writtenIn (lineWith (sealed b)) out) front
+      buffer = c .write-line .ensures .buffer ∙ ap (λ b. writtenIn (lineWith (sealed b)) out) front;
     }

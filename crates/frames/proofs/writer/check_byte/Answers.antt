@@ -1,5 +1,5 @@
 use native.Mathlib.Omega.{arith}
-use mathlib.Core.Path.{sym, ap, _∙_}
+use mathlib.Core.Path.{ap, _∙_}
 use Prim.Native.Nat.{_+_, _%_}
 use Rattle.frames.proofs.WriteLaws.{total-more, total-all}
 use Rattle.frames.proofs.writer.check_byte.Needs as need

@@ -1,9 +1,8 @@
-use Prim.Native.Nat.{_+_, _*_, _-_}
-use native.Mathlib.Nat.{sub-zero}
+use Prim.Native.Nat.{_*_}
 use native.Mathlib.Omega.{arith}
 use mathlib.Core.List.{_++_}
-use mathlib.Core.Path.{_≡_, refl, sym, ap, _∙_}
-use lib.ListN.{length, drop, getD}
+use mathlib.Core.Path.{ap, _∙_}
+use lib.ListN.{length, getD}
 use Rattle.std.specs.Joined.{joined}
 use Rattle.frames.specs.Frames.{wordBytes}
 use Rattle.frames.proofs.WordLaws.{be-word}
@@ -17,7 +16,7 @@ loop-word-holds c =
 pub loop-word-again : need.loop-word-again
 loop-word-again c = (
   chunk-more 8 (c .args .head .now) (c .args .words .now) _ (c .loop-word .body) (c .loop-word .word-index) (c .loop-word .at) (c .loop-word .inv .0) (c .loop-word .inv .1) (c .copy-from-slice-in-loop-word .last .self) (omega arith)
-  (c .copy-from-slice-in-loop-word .ensures .after ∙ be-word (getD (c .args .words .now) (c .loop-word .word-index) 0) (c .to-be-bytes .result) (c .to-be-bytes .ensures)),
+      (c .copy-from-slice-in-loop-word .ensures .after ∙ be-word (getD (c .args .words .now) (c .loop-word .word-index) 0) (c .to-be-bytes .result) (c .to-be-bytes .ensures)),
   omega (arith, c .loop-word .inv .1),
 )
 

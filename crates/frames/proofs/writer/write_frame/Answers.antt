@@ -1,5 +1,5 @@
 use mathlib.Core.List.{_∷_, []}
-use mathlib.Core.Path.{_≡_, sym, ap, _∙_}
+use mathlib.Core.Path.{sym, ap, _∙_}
 use lib.ListN.{getD}
 use Rattle.frames.specs.Frames.{sealed, lineWith, lineFor}
 use Rattle.frames.proofs.WordLaws.{be-pair}

@@ -1,6 +1,6 @@
 use Prim.Native.Nat.{_+_, _*_}
 use mathlib.Core.List.{_++_}
-use mathlib.Core.Path.{_≡_, ap, _∙_}
+use mathlib.Core.Path.{ap, _∙_}
 use lib.ListN.{length}
 use Rattle.std.specs.Joined.{joined}
 use Rattle.frames.specs.Frames.{wordBytes, sealed, lineWith, wroteIn, writtenIn}
@@ -16,5 +16,5 @@ returns c =
     let front = filled-front body (c .fill-body .last .body) _ (length head + 8 * length words) (c .fill-body .ensures) (body-long 8 head words) in
     record {
       result = c .write-line .ensures .result ∙ ap (λ b. wroteIn (lineWith (sealed b)) out) front;
-      buffer = c .write-line .ensures .buffer ∙ ap (λ b. writtenIn (lineWith (sealed b)) out) front
+      buffer = c .write-line .ensures .buffer ∙ ap (λ b. writtenIn (lineWith (sealed b)) out) front;
     }

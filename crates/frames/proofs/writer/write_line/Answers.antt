@@ -1,7 +1,7 @@
 use Prim.Native.Nat.{_+_, _*_, _<_, _≤_}
 use native.Mathlib.Omega.{arith}
 use mathlib.Core.List.{_++_, _∷_, []}
-use mathlib.Core.Path.{_≡_, refl, sym, ap, _∙_}
+use mathlib.Core.Path.{refl, sym, ap, _∙_}
 use lib.ListN.{length, drop}
 use Rattle.std.specs.declared.option.Option.the-variants.{Some}
 use Rattle.frames.specs.Digits.{hexOf}
@@ -27,8 +27,8 @@ returns c =
     record {
       result = ap (λ n. Some n) (sym long) ∙ room-result line out room;
       buffer =
-        line-written body out (c .hex .last .out) (c .hex-2 .last .out) (c .check-byte .result) (2 * length body) refl (c .if-out-count .left) (c .hex .ensures) (c .hex-2 .ensures)
-        ∙ ap (λ k. (hexOf (body ++ k ∷ []) ++ 10 ∷ []) ++ drop (2 * length body + 3) out) (c .check-byte .ensures)
-        ∙ ap (λ k. line ++ drop k out) (sym long)
-        ∙ room-buffer line out room
+          line-written body out (c .hex .last .out) (c .hex-2 .last .out) (c .check-byte .result) (2 * length body) refl (c .if-out-count .left) (c .hex .ensures) (c .hex-2 .ensures)
+          ∙ ap (λ k. (hexOf (body ++ k ∷ []) ++ 10 ∷ []) ++ drop (2 * length body + 3) out) (c .check-byte .ensures)
+          ∙ ap (λ k. line ++ drop k out) (sym long)
+          ∙ room-buffer line out room;
     }

@@ -1,5 +1,5 @@
-use mathlib.Core.List.{_∷_, []}
-use mathlib.Core.Path.{_≡_, sym, ap, _∙_}
+use mathlib.Core.List.{_∷_}
+use mathlib.Core.Path.{sym, ap, _∙_}
 use Rattle.frames.specs.declared.frame.Frame.the-variants.{Rule}
 use Rattle.frames.specs.Frames.{sealed, lineWith, lineFor}
 use Rattle.frames.proofs.WriteLaws.{condition-words, choice-words, same-line}
