@@ -1,20 +1,19 @@
 -- Laws of the reading of frames.
-use Prim.Native.Nat.{ℕ, zero, suc, _+_, _-_, _*_, _/_, _%_, _^_, _<_, _≤_}
-use native.Mathlib.Nat.{le-refl, sub-zero}
+use Prim.Native.Nat.{ℕ, zero, suc, _+_, _-_, _*_, _/_, _%_, _<_, _≤_}
+use native.Mathlib.Nat.{sub-zero}
 use native.Mathlib.Omega.{arith}
-use mathlib.Core.Path.{_≡_, refl, sym, ap, subst, _∙_}
-use mathlib.Core.Bool.{Bool, true, false, cond, _&&_}
+use mathlib.Core.Path.{_≡_, refl, sym, ap, _∙_}
+use mathlib.Core.Bool.{Bool, true}
 use mathlib.Core.List.{List, [], _∷_, _++_}
 use lib.Bits.{bitAnd}
 use lib.Dec.{eqb}
-use lib.ListN.{length, getD, set, take, drop, length-take, length-drop}
+use lib.ListN.{length, getD, take, drop, length-take, length-drop}
 use Rattle.std.specs.Options.{mapped}
 use Rattle.std.specs.declared.option.Option.{Option}
 use Rattle.std.specs.declared.option.Option.the-variants.{Some, None}
-use Rattle.std.specs.declared.result.Result.{Result}
-use Rattle.std.specs.declared.result.Result.the-variants.{Ok, Err}
-use Rattle.std.proofs.shelf.Lists.{append-assoc, append-nil, at-drop-more, at-drop-all, take-more, take-all, take-take, take-rest, drop-all, drop-take, drop-drop, getD-drop, nil-from-length}
-use Rattle.std.proofs.shelf.Tests.{cond-true, cond-false, eq-eqb, ne-eqb, le-ltb, and-parts}
+use Rattle.std.specs.declared.result.Result.the-variants.{Err}
+use Rattle.std.proofs.shelf.Lists.{append-assoc, append-nil, at-drop-more, at-drop-all, take-more, take-all, take-take, take-rest, drop-all, drop-take, drop-drop}
+use Rattle.std.proofs.shelf.Tests.{cond-true, cond-false, eq-eqb, ne-eqb}
 use Rattle.std.proofs.shelf.Ways.{same-from-decides, decides-like, decides-eqb}
 use Rattle.std.specs.Orderings.{Decides}
 use Rattle.literals.specs.Sets.{Consistent}
@@ -22,19 +21,17 @@ use Rattle.literals.proofs.Bitsets.{and-apart, apart-and}
 use Rattle.tables.specs.Rows.{makesFit}
 use Rattle.literals.specs.declared.literal_set.LiteralSet.{LiteralSet}
 use Rattle.literals.specs.declared.condition.Condition.{Condition}
-use Rattle.tables.specs.declared.row.RuleRow.{RuleRow}
-use Rattle.tables.specs.declared.row.RuleRow.the-variants.{Plain, Constraint, Choice}
+use Rattle.tables.specs.declared.row.RuleRow.the-variants.{Plain, Choice}
 use Rattle.frames.specs.declared.frame.Frame.{Frame}
-use Rattle.frames.specs.declared.frame.Frame.the-variants.{Rule, RankStep, Wish, Alternative, End, Fit}
-use Rattle.frames.specs.declared.frame.FrameFault.{FrameFault}
-use Rattle.frames.specs.declared.frame.FrameFault.the-variants.{Digits, Check, Kind, Field}
-use Rattle.frames.specs.Digits.{valueOf, bytesOf, hexOf, digitFault}
-use Rattle.frames.proofs.HexLaws.{faultless, length-bytesOf}
+use Rattle.frames.specs.declared.frame.Frame.the-variants.{Rule, Alternative, End, Fit}
+use Rattle.frames.specs.declared.frame.FrameFault.the-variants.{Kind}
+use Rattle.frames.specs.Digits.{valueOf, bytesOf, digitFault}
+use Rattle.frames.proofs.HexLaws.{faultless}
 use Rattle.frames.proofs.WordLaws.{Bytes}
 use Rattle.frames.proofs.DigitLaws.{body-small}
 use Rattle.frames.proofs.KindLaws.{Told, told, length-small}
 use Rattle.frames.specs.Faults.{lengthOf}
-use Rattle.frames.specs.Frames.{wordOf, wordBytes, setOf, conditionOf, plainOf, choiceOf, rankStepOf, alternativeOf, endOf, fitOf, said, inRange, parsed, total, checkedFrom, bodyOf, framed, lineOf, behind}
+use Rattle.frames.specs.Frames.{wordOf, setOf, conditionOf, plainOf, choiceOf, alternativeOf, endOf, fitOf, said, inRange, parsed, checkedFrom, bodyOf, framed, lineOf, behind}
 
 -- ---- fields
 

@@ -1,5 +1,5 @@
 -- What each kind says: fields of its length are those of one frame, whose numbers fit their types.
-use Prim.Native.Nat.{ℕ, zero, suc, _+_, _-_, _*_, _^_, _<_, _≤_}
+use Prim.Native.Nat.{ℕ, _+_, _^_, _<_, _≤_}
 use native.Mathlib.Omega.{arith}
 use mathlib.Core.Path.{_≡_, refl, sym, ap, _∙_}
 use mathlib.Core.Bool.{Bool, true, false, cond}
@@ -11,11 +11,10 @@ use Rattle.std.specs.declared.option.Option.{Option}
 use Rattle.std.specs.declared.option.Option.the-variants.{Some, None}
 use Rattle.std.proofs.shelf.Lists.{length-take-le, length-drop, take-append-drop}
 use Rattle.std.proofs.shelf.Tests.{eqb-true, eqb-false, cond-both}
-use Rattle.literals.specs.declared.literal_set.LiteralSet.{LiteralSet}
 use Rattle.literals.specs.declared.condition.Condition.{Condition}
 use Rattle.tables.specs.declared.row.RuleRow.the-variants.{Plain, Constraint, Choice}
 use Rattle.frames.specs.declared.frame.Frame.{Frame}
-use Rattle.frames.specs.declared.frame.Frame.the-variants.{Rule, RankStep, Wish, Alternative, End, Fit}
+use Rattle.frames.specs.declared.frame.Frame.the-variants.{Rule, Wish, Alternative, End, Fit}
 use Rattle.frames.specs.Frames.{wordOf, wordBytes, setOf, setBytes, conditionOf, conditionBytes, sealed, frameBytes, plainOf, choiceOf, rankStepOf, alternativeOf, endOf, fitOf, said, SetFits, ConditionFits, FrameFits}
 use Rattle.frames.specs.Faults.{lengthOf}
 use Rattle.frames.proofs.WordLaws.{Bytes, word-exact, wordOf-lt}
@@ -49,12 +48,12 @@ condition-told : (bs : List ℕ) → Bytes bs → ConditionTold bs (conditionOf 
 condition-told bs s =
     cond-both (eqb (length bs) 32) (Some (record { wanted = setOf (take 16 bs); absent = setOf (drop 16 bs) })) None (ConditionTold bs)
     (λ e.
-      let l = eqb-true (length bs) 32 e in
-      let lw = length-take-le 16 bs (omega arith) in
-      let la : length (drop 16 bs) ≡ 16 = length-drop 16 bs ∙ omega arith in
-      let w = set-exact (take 16 bs) lw (take-small 16 bs s) in
-      let a = set-exact (drop 16 bs) la (drop-small 16 bs s) in
-      (l, (λ i. w i ++ a i) ∙ take-append-drop 16 bs, (set-fits (take 16 bs) lw (take-small 16 bs s), set-fits (drop 16 bs) la (drop-small 16 bs s))))
+    let l = eqb-true (length bs) 32 e in
+    let lw = length-take-le 16 bs (omega arith) in
+    let la : length (drop 16 bs) ≡ 16 = length-drop 16 bs ∙ omega arith in
+    let w = set-exact (take 16 bs) lw (take-small 16 bs s) in
+    let a = set-exact (drop 16 bs) la (drop-small 16 bs s) in
+    (l, (λ i. w i ++ a i) ∙ take-append-drop 16 bs, (set-fits (take 16 bs) lw (take-small 16 bs s), set-fits (drop 16 bs) la (drop-small 16 bs s))))
     (λ e. eqb-false (length bs) 32 e)
 
 -- ---- frames

@@ -4,3 +4,6 @@ pub mod DigitLaws
 pub mod KindLaws
 pub mod FrameLaws
 pub mod LineLaws
+pub mod WriteLaws
+pub mod AnswerLaws
+pub mod FaultLaws

@@ -1,34 +1,33 @@
 -- An accepted line is the line of its frame, and the line of a good frame is accepted.
-use Prim.Native.Nat.{ℕ, zero, suc, _+_, _-_, _*_, _/_, _%_, _^_, _<_, _≤_}
+use Prim.Native.Nat.{ℕ, suc, _+_, _%_, _^_, _<_, _≤_}
 use native.Mathlib.Nat.{zero-add, mod-eq-of-lt}
 use native.Mathlib.Omega.{arith}
 use mathlib.Core.Path.{_≡_, refl, sym, ap, _∙_}
 use mathlib.Core.Bool.{Bool, true, false, cond}
 use mathlib.Core.List.{List, [], _∷_, _++_}
 use mathlib.Core.Logic.{_⊎_, inl, inr}
-use lib.Dec.{eqb, ltb, leb}
-use lib.ListN.{length, take, drop}
+use lib.Dec.{eqb}
+use lib.ListN.{length}
 use Rattle.std.specs.Options.{mapped}
 use Rattle.std.specs.declared.option.Option.{Option}
 use Rattle.std.specs.declared.option.Option.the-variants.{Some, None}
 use Rattle.std.specs.declared.result.Result.{Result}
 use Rattle.std.specs.declared.result.Result.the-variants.{Ok, Err}
 use Rattle.std.proofs.shelf.Lists.{append-assoc}
-use Rattle.std.proofs.shelf.Tests.{eqb-true, eq-eqb, cond-true, cond-false, false≢true}
+use Rattle.std.proofs.shelf.Tests.{eqb-true, eq-eqb, cond-true, false≢true}
 use Rattle.literals.specs.declared.literal_set.LiteralSet.{LiteralSet}
 use Rattle.literals.specs.declared.condition.Condition.{Condition}
-use Rattle.tables.specs.declared.row.RuleRow.{RuleRow}
 use Rattle.tables.specs.declared.row.RuleRow.the-variants.{Plain, Constraint, Choice}
 use Rattle.frames.specs.declared.frame.DigitFault.{DigitFault}
 use Rattle.frames.specs.declared.frame.Frame.{Frame}
 use Rattle.frames.specs.declared.frame.Frame.the-variants.{Rule, RankStep, Wish, Alternative, End, Fit}
 use Rattle.frames.specs.declared.frame.FrameFault.{FrameFault}
-use Rattle.frames.specs.declared.frame.FrameFault.the-variants.{Digits, Check, Kind, Field}
-use Rattle.frames.specs.Digits.{allDigits, hexOf, bytesOf, digitFault}
-use Rattle.frames.specs.Frames.{wordOf, wordBytes, setOf, setBytes, conditionOf, conditionBytes, total, sealed, ruleBytes, frameBytes, lineFor, said, makesRecord, inRange, parsed, checkedFrom, bodyOf, framed, afterDigits, frameOf, lineOf, behind, unended, withRest, judged, readFrame, SetFits, ConditionFits, FrameFits, Good, lineLength}
+use Rattle.frames.specs.declared.frame.FrameFault.the-variants.{Digits, Check, Field}
+use Rattle.frames.specs.Digits.{hexOf, bytesOf, digitFault}
+use Rattle.frames.specs.Frames.{wordOf, wordBytes, setOf, setBytes, conditionOf, conditionBytes, total, sealed, frameBytes, lineFor, said, makesRecord, inRange, parsed, checkedFrom, bodyOf, framed, afterDigits, frameOf, lineOf, behind, unended, judged, readFrame, SetFits, ConditionFits, FrameFits, Good, lineLength}
 use Rattle.frames.specs.Faults.{lengthOf}
 use Rattle.frames.proofs.HexLaws.{faultless}
-use Rattle.frames.proofs.WordLaws.{Bytes, bytes-append, wordBytes-bytes, length-wordBytes, wordOf-bytes}
+use Rattle.frames.proofs.WordLaws.{Bytes, bytes-append, wordBytes-bytes, wordOf-bytes}
 use Rattle.frames.proofs.DigitLaws.{some-none, some-same, ok-err, ok-same, hex-back, bytes-small, body-small, hex-good, bytes-back, good-line, line-back, behind-back}
 use Rattle.frames.proofs.KindLaws.{Told, told}
 

@@ -1,5 +1,5 @@
 -- Words and their bytes.
-use Prim.Native.Nat.{ℕ, zero, suc, _+_, _-_, _*_, _/_, _%_, _^_, _<_, _≤_}
+use Prim.Native.Nat.{ℕ, zero, suc, _+_, _*_, _/_, _%_, _^_, _<_}
 use native.Mathlib.Nat.{pow-succ', mul-assoc, mul-add-div-right}
 use native.Mathlib.Omega.{arith}
 use mathlib.Core.Path.{_≡_, refl, sym, ap, _∙_}
@@ -61,3 +61,9 @@ pub be-word : (w : ℕ) (bs : List ℕ)
     → bs ≡ wordBytes 8 w
 be-word w bs e =
     e ∙ ap (λ x. (w / 72057594037927936 % 256) ∷ (w / 281474976710656 % 256) ∷ (w / 1099511627776 % 256) ∷ (w / 4294967296 % 256) ∷ (w / 16777216 % 256) ∷ (w / 65536 % 256) ∷ (w / 256 % 256) ∷ x ∷ []) (omega arith)
+
+pub be-pair : (w : ℕ) (bs : List ℕ) → bs ≡ (w / 256 % 256) ∷ (w % 256) ∷ [] → bs ≡ wordBytes 2 w
+be-pair w bs e = e ∙ ap (λ x. (w / 256 % 256) ∷ x ∷ []) (omega arith)
+
+pub be-four : (w : ℕ) (bs : List ℕ) → bs ≡ (w / 16777216 % 256) ∷ (w / 65536 % 256) ∷ (w / 256 % 256) ∷ (w % 256) ∷ [] → bs ≡ wordBytes 4 w
+be-four w bs e = e ∙ ap (λ x. (w / 16777216 % 256) ∷ (w / 65536 % 256) ∷ (w / 256 % 256) ∷ x ∷ []) (omega arith)

@@ -1,15 +1,16 @@
 -- The lines of answers: rows, "more remain", refusals.
-use Prim.Native.Nat.{ℕ, _<_, _≤_}
+use Prim.Native.Nat.{ℕ}
 use mathlib.Core.Bool.{Bool, true, cond, _&&_}
-use mathlib.Core.List.{List, [], _∷_, _++_}
+use mathlib.Core.List.{List, [], _∷_}
 use lib.ListN.{length}
-use lib.Dec.{leb, ltb}
+use lib.Dec.{leb}
 use Rattle.std.specs.Joined.{joined}
+use Rattle.std.specs.Options.{okOr}
 use Rattle.std.specs.declared.result.Result.{Result}
-use Rattle.std.specs.declared.result.Result.the-variants.{Ok, Err}
+use Rattle.std.specs.declared.result.Result.the-variants.{Err}
 use Rattle.frames.specs.declared.answer_frames.WriteFault.{WriteFault}
 use Rattle.frames.specs.declared.answer_frames.WriteFault.the-variants.{TooWide, BufferShort}
-use Rattle.frames.specs.Frames.{wordBytes, sealed, lineWith, overwritten}
+use Rattle.frames.specs.Frames.{wordBytes, sealed, lineWith, wroteIn, writtenIn}
 
 -- A row, kind 31: the number of its columns, one byte, then two bytes a column.
 abbrev pub rowLine : List ℕ → List ℕ
@@ -39,13 +40,12 @@ narrow columns = leb (length columns) 255 && allNarrow columns
 
 -- What writing a line into a buffer gives: its length, or that there is no room.
 abbrev pub wrote : List ℕ → List ℕ → Result ℕ WriteFault
-wrote line out = cond (ltb (length out) (length line)) (Err BufferShort) (Ok (length line))
+wrote line out = okOr (wroteIn line out) BufferShort
 
--- What writing a row gives.
+-- What writing a row gives: too wide a row is refused first.
 abbrev pub wroteRow : List ℕ → List ℕ → Result ℕ WriteFault
 wroteRow columns out = cond (narrow columns) (wrote (rowLine columns) out) (Err TooWide)
 
--- A buffer after writing: the line at its front; a refusal changes nothing.
-abbrev pub outAfter : Result ℕ WriteFault → List ℕ → List ℕ → List ℕ
-outAfter (Ok count) line out = overwritten line out
-outAfter (Err e) line out = out
+-- A buffer after a row was to be written: a refusal changes nothing.
+abbrev pub rowWrittenIn : List ℕ → List ℕ → List ℕ
+rowWrittenIn columns out = cond (narrow columns) (writtenIn (rowLine columns) out) out

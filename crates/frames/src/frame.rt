@@ -1,6 +1,9 @@
 // Frames, and why a line is none.
+ghost use mathlib.Core.List.{List};
 ghost use mathlib.Core.Path.{_≡_};
+ghost use Prim.Native.Nat.{ℕ};
 ghost use Rattle.frames.specs.declared.frame.FrameFault.the-variants.{Digits};
+ghost use Rattle.frames.specs.Faults.{FaultsStand};
 ghost use Rattle.frames.specs.Frames.{makesRecord, numberOf};
 use literals::Condition;
 use literals::ConditionDebug;
@@ -60,9 +63,10 @@ pub impl From<DigitFault> for FrameFault as DigitsInFrame {
 }
 
 impl FrameFault {
-    // The number of the refusal.
+    // The number of the refusal. A line is refused with a number exactly when it has the fault of that number and none before it.
     pub fn number(self) -> u8
-        ensures { λ r. ⌜ r ≡ numberOf self ⌝ }
+        ensures number { λ r. ⌜ r ≡ numberOf self ⌝ }
+        ensures meaning { λ _. ⌜ ((t : List ℕ) → FaultsStand t) ⌝ }
     {
         match self {
             FrameFault::Digits(_) => 1,

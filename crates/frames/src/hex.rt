@@ -9,14 +9,14 @@ ghost use Rattle.std.specs.declared.option.Option.the-variants.{Some, None};
 ghost use Rattle.frames.specs.Digits.{isDigit, valueOf, digitOf, allDigits, bytesOf, hexOf, digitFault};
 use crate::frame::DigitFault;
 
-pub fn is_digit(b: u8) -> bool
+fn is_digit(b: u8) -> bool
     ensures { λ r. ⌜ r ≡ isDigit b ⌝ }
 {
     matches!(b, b'0'..=b'9' | b'A'..=b'F')
 }
 
 // The value of a digit.
-pub fn digit_value(b: u8) -> u8
+pub(crate) fn digit_value(b: u8) -> u8
     requires { ⌜ isDigit b ≡ true ⌝ }
     ensures value { λ r. ⌜ r ≡ valueOf b ⌝ }
     ensures bound { λ r. ⌜ r < 16 ⌝ }
@@ -25,7 +25,7 @@ pub fn digit_value(b: u8) -> u8
 }
 
 // The digit of a value.
-pub fn digit(value: u8) -> u8
+fn digit(value: u8) -> u8
     requires { ⌜ value < 16 ⌝ }
     ensures { λ r. ⌜ r ≡ digitOf value ⌝ }
 {
@@ -37,7 +37,7 @@ pub fn digit(value: u8) -> u8
 }
 
 // Refuses a line that is no row of digits, an even number and four at least.
-pub fn check_digits(line: &[u8]) -> Result<(), DigitFault>
+pub(crate) fn check_digits(line: &[u8]) -> Result<(), DigitFault>
     ensures { λ r. ⌜ Cases r (λ _. digitFault (now (line .entry)) ≡ None) (λ e. digitFault (now (line .entry)) ≡ Some e) ⌝ }
 {
     for (at, b) in line.iter().enumerate() {
@@ -55,7 +55,7 @@ pub fn check_digits(line: &[u8]) -> Result<(), DigitFault>
 }
 
 // Fills `bytes` with the first bytes that the digits write, as many as there is place for.
-pub fn unhex(digits: &[u8], bytes: &mut [u8])
+pub(crate) fn unhex(digits: &[u8], bytes: &mut [u8])
     requires digits { ⌜ allDigits (now digits) ≡ true ⌝ }
     requires place { ⌜ 2 * length (now bytes) ≤ length (now digits) ⌝ }
     ensures { λ _. ⌜ bytesOf (now (digits .entry)) ≡ now (bytes .exit) ++ bytesOf (drop (2 * length (now (bytes .entry))) (now (digits .entry))) ⌝ }
@@ -66,7 +66,7 @@ pub fn unhex(digits: &[u8], bytes: &mut [u8])
 }
 
 // Writes the digits of `bytes` at the front of `out`, and leaves what is behind them.
-pub fn hex(bytes: &[u8], out: &mut [u8])
+pub(crate) fn hex(bytes: &[u8], out: &mut [u8])
     requires { ⌜ 2 * length (now bytes) ≤ length (now out) ⌝ }
     ensures { λ _. ⌜ now (out .exit) ≡ hexOf (now (bytes .entry)) ++ drop (2 * length (now (bytes .entry))) (now (out .entry)) ⌝ }
 {

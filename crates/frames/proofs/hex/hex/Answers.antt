@@ -1,11 +1,5 @@
-use borrow.Author.Needs.{needs}
-use mathlib.Core.Path.{ap, _∙_}
-use mathlib.Core.List.{_++_}
+use mathlib.Core.Path.{_∙_}
 use native.Mathlib.Omega.{arith}
-use lib.ListN.{drop, take, set, length}
-use Prim.Native.Nat.{_*_, _+_}
-use Rattle.std.proofs.shelf.Lists.{take-all}
-use Rattle.frames.specs.Digits.{hexOf}
 use Rattle.frames.proofs.HexLaws.{hex-more, all-written}
 use Rattle.frames.proofs.hex.hex.Needs as need
 

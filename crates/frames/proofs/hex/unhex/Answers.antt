@@ -1,6 +1,5 @@
 use Prim.Native.Nat.{_+_, _*_}
 use native.Mathlib.Omega.{arith}
-use mathlib.Core.Path.{_≡_}
 use Rattle.frames.proofs.HexLaws.{unhex-more, all-read, digit-at}
 use Rattle.frames.proofs.hex.unhex.Needs as need
 

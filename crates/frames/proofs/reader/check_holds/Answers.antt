@@ -1,14 +1,9 @@
 use borrow.Author.Needs.{needs}
 use native.Mathlib.Omega.{arith}
-use Prim.Native.Nat.{_+_, _-_, _*_, _%_, _<_, _≤_}
-use native.Mathlib.Nat.{mod-lt}
-use mathlib.Core.Path.{_≡_, sym, ap, _∙_}
-use mathlib.Core.Bool.{true}
-use lib.Dec.{eqb}
-use lib.ListN.{length, take, drop, length-take, length-drop}
+use Prim.Native.Nat.{_-_, _<_, _≤_}
+use mathlib.Core.Path.{sym, _∙_}
+use lib.ListN.{length, length-drop}
 use Rattle.std.proofs.shelf.Lists.{take-rest}
-use Rattle.frames.specs.Digits.{bytesOf, allDigits}
-use Rattle.frames.specs.Frames.{checkedFrom}
 use Rattle.frames.proofs.FrameLaws.{checked-last, checked-more}
 use Rattle.frames.proofs.HexLaws.{digits-front}
 use Rattle.frames.proofs.reader.check_holds.Needs as need

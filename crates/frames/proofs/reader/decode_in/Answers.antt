@@ -1,8 +1,8 @@
 use borrow.Author.Needs.{needs}
 use native.Mathlib.Omega.{arith}
-use mathlib.Core.Path.{_≡_, sym, ap, _∙_}
-use lib.ListN.{length, take}
-use Prim.Native.Nat.{_/_, _-_, _≤_}
+use mathlib.Core.Path.{sym, _∙_}
+use lib.ListN.{length}
+use Prim.Native.Nat.{_/_, _≤_}
 use Rattle.frames.specs.Digits.{bytesOf}
 use Rattle.frames.proofs.HexLaws.{faultless, length-bytesOf}
 use Rattle.frames.proofs.DigitLaws.{bytes-small}
