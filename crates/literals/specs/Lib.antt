@@ -1,3 +1,7 @@
 pub mod Words
 pub mod Sets
+pub mod Settling
+pub mod Conditions
+pub mod Sound
+pub mod Fits
 pub mod Faults

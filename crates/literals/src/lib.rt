@@ -1,12 +1,17 @@
 // Sets of literals as pairs of 64-bit words, and what is made of them.
 mod condition;
+mod fit;
 mod literal;
 mod literal_set;
 mod record_fault;
+mod words;
 
 pub use condition::Condition;
 pub use condition::ConditionDebug;
 pub use condition::ConditionPartialEq;
+pub use fit::Fit;
+pub use fit::FitDebug;
+pub use fit::FitPartialEq;
 pub use literal::Literal;
 pub use literal_set::LiteralSet;
 pub use literal_set::LiteralSetDebug;
@@ -14,3 +19,4 @@ pub use literal_set::LiteralSetPartialEq;
 pub use record_fault::RecordFault;
 pub use record_fault::RecordFaultDebug;
 pub use record_fault::RecordFaultPartialEq;
+pub use words::highest_bit;
