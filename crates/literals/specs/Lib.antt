@@ -4,4 +4,5 @@ pub mod Settling
 pub mod Conditions
 pub mod Sound
 pub mod Fits
+pub mod Picking
 pub mod Faults
