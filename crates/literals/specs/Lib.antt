@@ -5,4 +5,5 @@ pub mod Conditions
 pub mod Sound
 pub mod Fits
 pub mod Picking
+pub mod Between
 pub mod Faults

@@ -1,4 +1,5 @@
 // Sets of literals as pairs of 64-bit words, and what is made of them.
+mod bounds;
 mod condition;
 mod fit;
 mod literal;
@@ -7,6 +8,9 @@ mod picks;
 mod record_fault;
 mod words;
 
+pub use bounds::Bounds;
+pub use bounds::BoundsDebug;
+pub use bounds::BoundsPartialEq;
 pub use condition::Condition;
 pub use condition::ConditionDebug;
 pub use condition::ConditionPartialEq;
@@ -14,6 +18,8 @@ pub use fit::Fit;
 pub use fit::FitDebug;
 pub use fit::FitPartialEq;
 pub use literal::Literal;
+pub use literal::LiteralDebug;
+pub use literal::LiteralPartialEq;
 pub use literal_set::LiteralSet;
 pub use literal_set::LiteralSetDebug;
 pub use literal_set::LiteralSetPartialEq;

@@ -17,6 +17,7 @@ pub struct LiteralSet {
 
 impl LiteralSet {
     pub const EMPTY: LiteralSet = LiteralSet { plus: 0, minus: 0 };
+    pub const ALL: LiteralSet = LiteralSet { plus: u64::MAX, minus: u64::MAX };
 
     // The set of one literal.
     pub fn of(literal: Literal) -> LiteralSet
