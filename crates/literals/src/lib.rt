@@ -6,6 +6,8 @@ mod literal;
 mod literal_set;
 mod picks;
 mod record_fault;
+#[cfg(test)]
+mod tests;
 mod words;
 
 pub use bounds::Bounds;

@@ -17,7 +17,11 @@ pub struct LiteralSet {
 
 impl LiteralSet {
     pub const EMPTY: LiteralSet = LiteralSet { plus: 0, minus: 0 };
-    pub const ALL: LiteralSet = LiteralSet { plus: u64::MAX, minus: u64::MAX };
+
+    pub const ALL: LiteralSet = LiteralSet {
+        plus: u64::MAX,
+        minus: u64::MAX,
+    };
 
     // The set of one literal.
     pub fn of(literal: Literal) -> LiteralSet
@@ -36,6 +40,27 @@ impl LiteralSet {
                 minus: bit,
             }
         }
+    }
+
+    // Whether the literal is in the set.
+    pub fn has(self, literal: Literal) -> bool
+        ensures { λ r. ⌜ Decides r (In self (named (literal .code))) ⌝ }
+    {
+        LiteralSet::of(literal).is_subset(self)
+    }
+
+    // The set with one literal more, if it lacks it.
+    pub fn with(self, literal: Literal) -> LiteralSet
+        ensures { λ r. ⌜ Added self (named (literal .code)) r ⌝ }
+    {
+        self.union(LiteralSet::of(literal))
+    }
+
+    // The set without one literal, if it has it.
+    pub fn without(self, literal: Literal) -> LiteralSet
+        ensures { λ r. ⌜ Removed self (named (literal .code)) r ⌝ }
+    {
+        self.difference(LiteralSet::of(literal))
     }
 
     // Whether every literal of this set is in `other`.
@@ -100,11 +125,14 @@ impl LiteralSet {
         }
     }
 
-    // How many literals the set has.
-    pub fn len(self) -> u32
-        ensures { λ r. ⌜ r ≡ size self ⌝ ∗ ⌜ r ≤ 128 ⌝ }
+    // The literals that are in one of the sets alone.
+    pub fn symmetric_difference(self, other: LiteralSet) -> LiteralSet
+        ensures { λ r. ⌜ Differing self other r ⌝ }
     {
-        self.plus.count_ones() + self.minus.count_ones()
+        LiteralSet {
+            plus: self.plus ^ other.plus,
+            minus: self.minus ^ other.minus,
+        }
     }
 
     // The strong negation of each literal.
@@ -117,42 +145,18 @@ impl LiteralSet {
         }
     }
 
+    // How many literals the set has.
+    pub fn len(self) -> u32
+        ensures { λ r. ⌜ r ≡ size self ⌝ ∗ ⌜ r ≤ 128 ⌝ }
+    {
+        self.plus.count_ones() + self.minus.count_ones()
+    }
+
     // How many literals are in both sets.
     pub fn count_common(self, other: LiteralSet) -> u32
         ensures { λ r. ⌜ r ≡ common self other ⌝ }
     {
         (self.plus & other.plus).count_ones() + (self.minus & other.minus).count_ones()
-    }
-
-    // Whether the literal is in the set.
-    pub fn has(self, literal: Literal) -> bool
-        ensures { λ r. ⌜ Decides r (In self (named (literal .code))) ⌝ }
-    {
-        LiteralSet::of(literal).is_subset(self)
-    }
-
-    // The set with one literal more, if it lacks it.
-    pub fn with(self, literal: Literal) -> LiteralSet
-        ensures { λ r. ⌜ Added self (named (literal .code)) r ⌝ }
-    {
-        self.union(LiteralSet::of(literal))
-    }
-
-    // The set without one literal, if it has it.
-    pub fn without(self, literal: Literal) -> LiteralSet
-        ensures { λ r. ⌜ Removed self (named (literal .code)) r ⌝ }
-    {
-        self.difference(LiteralSet::of(literal))
-    }
-
-    // The literals that are in one of the sets alone.
-    pub fn symmetric_difference(self, other: LiteralSet) -> LiteralSet
-        ensures { λ r. ⌜ Differing self other r ⌝ }
-    {
-        LiteralSet {
-            plus: self.plus ^ other.plus,
-            minus: self.minus ^ other.minus,
-        }
     }
 
     // The first literal of the set in the order in which a search settles them: atoms from the highest down, then strong

@@ -10,7 +10,8 @@ pub ghost-result : need.ghost-result
 ghost-result c =
     let p = c .args .self in
     let picked = not-from-decides _ (c .is-picked .ensures) (c .if-is-picked .left) in
-    let opposed = not-from-decides _ (c .has .ensures) (c .if-has .left) in
-    ( sound-require (p .required) (p .excluded) (c .with .result) _ (p .sound) (c .with .ensures)
-        (λ h. picked (inr h)) (λ h. opposed (subst (In (p .required)) (sym (c .opposite .ensures)) h))
-    , tt )
+    let opposed = not-from-decides _ (c .has .ensures) (c .if-has .left) in (
+      sound-require (p .required) (p .excluded) (c .with .result) _ (p .sound) (c .with .ensures)
+          (λ h. picked (inr h)) (λ h. opposed (subst (In (p .required)) (sym (c .opposite .ensures)) h)),
+      tt,
+    )
