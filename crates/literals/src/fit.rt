@@ -1,4 +1,5 @@
 // A fit: a consistent set of literals.
+ghost use mathlib.Core.Path.{_≡_};
 ghost use Rattle.literals.specs.Sound.{SoundFit};
 use crate::literal_set::LiteralSet;
 use crate::literal_set::LiteralSetDebug;
@@ -12,4 +13,12 @@ mod calls;
 pub struct Fit {
     literals: LiteralSet,
     ghost sound: { SoundFit literals },
+}
+
+impl Fit {
+    pub fn literals(self) -> LiteralSet
+        ensures { λ r. ⌜ r ≡ self .literals ⌝ }
+    {
+        self.literals
+    }
 }

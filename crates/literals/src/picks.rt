@@ -1,4 +1,5 @@
 // Picks: literals that a fit has to have, and literals that it must not have.
+ghost use mathlib.Core.Path.{_≡_};
 ghost use Rattle.literals.specs.Sound.{SoundPicks};
 use crate::literal_set::LiteralSet;
 use crate::literal_set::LiteralSetDebug;
@@ -19,4 +20,18 @@ pub struct Picks {
     required: LiteralSet,
     excluded: LiteralSet,
     ghost sound: { SoundPicks required excluded },
+}
+
+impl Picks {
+    pub fn required(self) -> LiteralSet
+        ensures { λ r. ⌜ r ≡ self .required ⌝ }
+    {
+        self.required
+    }
+
+    pub fn excluded(self) -> LiteralSet
+        ensures { λ r. ⌜ r ≡ self .excluded ⌝ }
+    {
+        self.excluded
+    }
 }

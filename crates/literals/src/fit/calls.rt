@@ -19,12 +19,6 @@ impl Fit {
         }
     }
 
-    pub fn literals(self) -> LiteralSet
-        ensures { λ r. ⌜ r ≡ self .literals ⌝ }
-    {
-        self.literals
-    }
-
     // Whether this fit comes before `other`: by `plus` as a number, then by `minus`.
     pub fn is_before(self, other: Fit) -> bool
         ensures earlier { λ r. ⌜ Decides r (place self < place other) ⌝ }

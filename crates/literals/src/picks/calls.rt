@@ -21,18 +21,6 @@ impl Picks {
         }
     }
 
-    pub fn required(self) -> LiteralSet
-        ensures { λ r. ⌜ r ≡ self .required ⌝ }
-    {
-        self.required
-    }
-
-    pub fn excluded(self) -> LiteralSet
-        ensures { λ r. ⌜ r ≡ self .excluded ⌝ }
-    {
-        self.excluded
-    }
-
     // Whether the literal is on either side.
     pub fn is_picked(self, literal: Literal) -> bool
         ensures { λ r. ⌜ Decides r (Picked self (named (literal .code))) ⌝ }
