@@ -1,34 +1,18 @@
 -- The order of sets by the first literal in which they differ.
 use mathlib.Core.Path.{_≡_, refl, sym, ap, subst, _∙_}
 use mathlib.Core.Logic.{_⊎_, inl, inr, ⊎-elim}
-use mathlib.Core.Bool.{true, false}
-use Prim.Native.Nat.{ℕ, _+_, _*_, _/_, _%_, _≤_, _<_}
+use Prim.Native.Nat.{ℕ, _≤_, _<_}
 use native.Mathlib.Omega.{arith}
-use lib.Dec.{eqb}
-use Rattle.std.proofs.shelf.Tests.{eq-eqb, ne-eqb, cases-order}
+use Rattle.std.proofs.shelf.Tests.{cases-order}
 use Rattle.std.specs.declared.option.Option.{Option}
 use Rattle.std.specs.declared.option.Option.the-variants.{Some, None}
 use Rattle.literals.specs.declared.literal.Literal.{Literal}
 use Rattle.literals.specs.declared.literal_set.LiteralSet.{LiteralSet}
 use Rattle.literals.specs.Words.{Has, HighestBit, AgreeAbove}
 use Rattle.literals.specs.Sets.{Lit, atom, negated, named, In, _⊑_, Before, Differing}
-use Rattle.literals.specs.Settling.{Earlier, HighestIn, Highest, AgreeBefore, FirstDifference, Difference-at, SameLiterals, FirstDecides}
+use Rattle.literals.specs.Settling.{Earlier, HighestIn, Highest, AgreeBefore, FirstDifferenceAt, FirstDifference, SameLiterals, FirstDecides}
 use Rattle.literals.proofs.Bitsets.{none-has, same-bits, highest-decides}
 use Rattle.literals.proofs.SetLaws.{same-sets, present}
-
--- ---- codes
-
-pub named-even : (a : ℕ) → named (2 * a) ≡ atom a
-named-even a =
-    let t : eqb (2 * a % 2) 0 ≡ true = eq-eqb (2 * a % 2) 0 (omega arith) in
-    let d : 2 * a / 2 ≡ a = omega arith in
-    rw (t, d)
-
-pub named-odd : (a : ℕ) → named (2 * a + 1) ≡ negated a
-named-odd a =
-    let t : eqb ((2 * a + 1) % 2) 0 ≡ false = ne-eqb ((2 * a + 1) % 2) 0 (λ e. omega arith) in
-    let d : (2 * a + 1) / 2 ≡ a = omega arith in
-    rw (t, d)
 
 -- ---- the highest literal of a set
 
@@ -100,11 +84,11 @@ agree-before x y r k d top l e = (
 agree-back : (x y : LiteralSet) (k : Lit) → AgreeBefore k x y → AgreeBefore k y x
 agree-back x y k a l e = (a l e .1, a l e .0)
 
-pub first-difference : (x y r : LiteralSet) (k : Lit) → Differing x y r → HighestIn r k → FirstDifference x y k
-first-difference x y r k d top =
+pub first-difference-at : (x y r : LiteralSet) (k : Lit) → Differing x y r → HighestIn r k → FirstDifferenceAt x y k
+first-difference-at x y r k d top =
     let a = agree-before x y r k d top in
     by-side a (d .one k (top .there)) where
-      by-side : AgreeBefore k x y → (In x k × (In y k → ⊥)) ⊎ ((In x k → ⊥) × In y k) → FirstDifference x y k
+      by-side : AgreeBefore k x y → (In x k × (In y k → ⊥)) ⊎ ((In x k → ⊥) × In y k) → FirstDifferenceAt x y k
       by-side a (inl p) = record {
         differ = inl p;
         agree = a;
@@ -113,9 +97,9 @@ first-difference x y r k d top =
       }
       by-side a (inr p) = record { differ = inr p; agree = a; less = λ q. first-decides x y k a (p .0) q; back = λ b. p .1 }
 
-pub difference-at : (x y r : LiteralSet) (o : Option Literal) → Differing x y r → Highest r o → Difference-at x y o
-difference-at x y r None d none =
+pub first-difference : (x y r : LiteralSet) (o : Option Literal) → Differing x y r → Highest r o → FirstDifference x y o
+first-difference x y r None d none =
     same-sets x y
     (λ l p. ⊎-elim (λ q. q) (λ n. absurd (none l (d .left l p n))) (present y l))
     (λ l q. ⊎-elim (λ p. p) (λ n. absurd (none l (d .right l n q))) (present x l))
-difference-at x y r (Some k) d top = first-difference x y r (named (k .code)) d top
+first-difference x y r (Some k) d top = first-difference-at x y r (named (k .code)) d top

@@ -12,7 +12,7 @@ use Rattle.literals.specs.declared.literal_set.LiteralSet.{LiteralSet}
 use Rattle.literals.specs.declared.picks.Picks.{Picks}
 use Rattle.literals.specs.Sets.{Lit, atom, negated, named, In, _⊑_, Disjoint, Difference}
 use Rattle.literals.specs.Settling.{Earlier, HighestIn, Highest}
-use Rattle.literals.specs.Between.{Between, Coded, BoundsOf, FirstOpen, Open-first}
+use Rattle.literals.specs.Between.{Between, Coded, BoundsOf, FirstOpenAt, FirstOpen}
 use Rattle.literals.proofs.Bitsets.{has-below, has-ones}
 use Rattle.literals.proofs.SetLaws.{same-sets, sub-refl, sub-trans, present}
 use Rattle.literals.proofs.Settling.{none-earlier, first-decides}
@@ -65,8 +65,8 @@ settled-one b c s w = same-sets s (b .lower) (sub-trans s (b .upper) (b .lower) 
 
 -- ---- the first open literal
 
-open-at : (b : Bounds) (r : LiteralSet) (k : Lit) → Difference (b .upper) (b .lower) r → HighestIn r k → FirstOpen b k
-open-at b r k d top =
+first-open-at : (b : Bounds) (r : LiteralSet) (k : Lit) → Difference (b .upper) (b .lower) r → HighestIn r k → FirstOpenAt b k
+first-open-at b r k d top =
     let f : (l : Lit) → Earlier l k → In (b .upper) l → In (b .lower) l =
     λ l e p. ⊎-elim (λ q. q) (λ n. absurd (none-earlier r k l top e (d .all l p n))) (present (b .lower) l) in
     record {
@@ -77,6 +77,6 @@ open-at b r k d top =
           (λ l e. (λ q. wt .low l (f l e (ws .high l q)), λ q. ws .low l (f l e (wt .high l q)))) n p;
     }
 
-pub open-first : (b : Bounds) (r : LiteralSet) (o : Option Literal) → Difference (b .upper) (b .lower) r → Highest r o → Open-first b o
-open-first b r None d none = λ l p. ⊎-elim (λ q. q) (λ n. absurd (none l (d .all l p n))) (present (b .lower) l)
-open-first b r (Some k) d top = open-at b r (named (k .code)) d top
+pub first-open : (b : Bounds) (r : LiteralSet) (o : Option Literal) → Difference (b .upper) (b .lower) r → Highest r o → FirstOpen b o
+first-open b r None d none = λ l p. ⊎-elim (λ q. q) (λ n. absurd (none l (d .all l p n))) (present (b .lower) l)
+first-open b r (Some k) d top = first-open-at b r (named (k .code)) d top

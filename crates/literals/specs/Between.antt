@@ -31,16 +31,16 @@ pub record BoundsOf (p : Picks) (b : Bounds) : Type 0 where
   pub keeps : (f : Fit) → Between b (f .literals) → Keeps p f
 
 -- k is open, and every other open literal comes later. Of two sets between the bounds the one without it comes before
-pub record FirstOpen (b : Bounds) (k : Lit) : Type 0 where
+pub record FirstOpenAt (b : Bounds) (k : Lit) : Type 0 where
   pub above : In (b .upper) k
   pub below : In (b .lower) k → ⊥
   pub first : (l : Lit) → Earlier l k → In (b .upper) l → In (b .lower) l
   pub decides : (s t : LiteralSet) → Between b s → Between b t → (In s k → ⊥) → In t k → Before s t
 
 -- none exactly where no literal is open
-abbrev pub Open-first : Bounds → Option Literal → Type 0
-Open-first b None = b .upper ⊑ b .lower
-Open-first b (Some k) = FirstOpen b (named (k .code))
+abbrev pub FirstOpen : Bounds → Option Literal → Type 0
+FirstOpen b None = b .upper ⊑ b .lower
+FirstOpen b (Some k) = FirstOpenAt b (named (k .code))
 
 -- between n lies what lies between b and has k
 pub record Including (b : Bounds) (k : Lit) (n : Bounds) : Type 0 where

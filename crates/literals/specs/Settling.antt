@@ -30,16 +30,16 @@ abbrev pub AgreeBefore : Lit → LiteralSet → LiteralSet → Type 0
 AgreeBefore k x y = (l : Lit) → Earlier l k → (In x l → In y l) × (In y l → In x l)
 
 -- k is the first literal in which x and y differ, and it decides their order
-pub record FirstDifference (x y : LiteralSet) (k : Lit) : Type 0 where
+pub record FirstDifferenceAt (x y : LiteralSet) (k : Lit) : Type 0 where
   pub differ : (In x k × (In y k → ⊥)) ⊎ ((In x k → ⊥) × In y k)
   pub agree : AgreeBefore k x y
   pub less : In y k → Before x y
   pub back : Before x y → In y k
 
 -- none exactly where the sets are equal
-abbrev pub Difference-at : LiteralSet → LiteralSet → Option Literal → Type 0
-Difference-at x y None = x ≡ y
-Difference-at x y (Some k) = FirstDifference x y (named (k .code))
+abbrev pub FirstDifference : LiteralSet → LiteralSet → Option Literal → Type 0
+FirstDifference x y None = x ≡ y
+FirstDifference x y (Some k) = FirstDifferenceAt x y (named (k .code))
 
 -- sets with the same literals are equal
 abbrev pub SameLiterals : Type 0

@@ -1,7 +1,7 @@
 // Bounds of sets: what is surely in, and what may be in.
 ghost use mathlib.Core.Bool.{true};
 ghost use mathlib.Core.Path.{_≡_};
-ghost use Rattle.literals.specs.Between.{Between, BoundsOf, Open-first, Including, Excluding};
+ghost use Rattle.literals.specs.Between.{Between, BoundsOf, FirstOpen, Including, Excluding};
 ghost use Rattle.literals.specs.Sets.{_⊑_, Difference, named};
 ghost use Rattle.literals.specs.declared.literal_set.LiteralSet.{LiteralSet as ASet};
 ghost use Rattle.std.specs.Orderings.{Decides};
@@ -62,7 +62,7 @@ impl Bounds {
 
     // The first open literal in the order in which a search settles them.
     pub fn first_open(self) -> Option<Literal>
-        ensures { λ r. ⌜ Open-first self r ⌝ }
+        ensures { λ r. ⌜ FirstOpen self r ⌝ }
     {
         self.open().highest()
     }

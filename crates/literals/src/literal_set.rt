@@ -2,7 +2,7 @@
 ghost use Prim.Native.Nat.{_<_, _≤_};
 ghost use mathlib.Core.Path.{_≡_};
 ghost use Rattle.literals.specs.Sets.{In, _⊑_, Disjoint, Consistent, common, size, Before, Single, named, Union, Shared, Difference, Differing, Added, Removed};
-ghost use Rattle.literals.specs.Settling.{Highest, Difference-at, SameLiterals, FirstDecides};
+ghost use Rattle.literals.specs.Settling.{Highest, FirstDifference, SameLiterals, FirstDecides};
 ghost use Rattle.literals.specs.Words.{Extensional, HighestDecides};
 ghost use Rattle.std.specs.Orderings.{Decides};
 use crate::literal::Literal;
@@ -176,7 +176,7 @@ impl LiteralSet {
     // The first literal, in the same order, in which the sets differ. It decides which set comes before the other. The last
     // two clauses are the laws that this stands on, for words of any width and for sets.
     pub fn first_difference(self, other: LiteralSet) -> Option<Literal>
-        ensures found { λ r. ⌜ Difference-at self other r ⌝ }
+        ensures found { λ r. ⌜ FirstDifference self other r ⌝ }
         ensures words { λ _. ⌜ Extensional ⌝ ∗ ⌜ HighestDecides ⌝ }
         ensures sets { λ _. ⌜ SameLiterals ⌝ ∗ ⌜ FirstDecides ⌝ }
     {

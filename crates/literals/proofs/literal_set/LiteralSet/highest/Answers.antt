@@ -1,6 +1,7 @@
 use native.Mathlib.Omega.{arith}
 use Rattle.literals.proofs.Bitsets.{has-below}
-use Rattle.literals.proofs.Settling.{named-even, named-odd, highest-atom, highest-negated, highest-made}
+use Rattle.literals.proofs.Codes.{named-even, named-odd}
+use Rattle.literals.proofs.Settling.{highest-atom, highest-negated, highest-made}
 use Rattle.literals.proofs.literal_set.LiteralSet.highest.Needs as need
 
 pub mul-atom : need.mul-atom
