@@ -1,5 +1,5 @@
 -- The order of sets by the first literal in which they differ.
-use mathlib.Core.Path.{_≡_, refl, sym, ap, subst, _∙_}
+use mathlib.Core.Path.{_≡_, sym, ap, subst, _∙_}
 use mathlib.Core.Logic.{_⊎_, inl, inr, ⊎-elim}
 use Prim.Native.Nat.{ℕ, _≤_, _<_}
 use native.Mathlib.Omega.{arith}
@@ -8,9 +8,9 @@ use Rattle.std.specs.declared.option.Option.{Option}
 use Rattle.std.specs.declared.option.Option.the-variants.{Some, None}
 use Rattle.literals.specs.declared.literal.Literal.{Literal}
 use Rattle.literals.specs.declared.literal_set.LiteralSet.{LiteralSet}
-use Rattle.literals.specs.Words.{Has, HighestBit, AgreeAbove}
-use Rattle.literals.specs.Sets.{Lit, atom, negated, named, In, _⊑_, Before, Differing}
-use Rattle.literals.specs.Settling.{Earlier, HighestIn, Highest, AgreeBefore, FirstDifferenceAt, FirstDifference, SameLiterals, FirstDecides}
+use Rattle.literals.specs.Words.{Has, HighestBit}
+use Rattle.literals.specs.Sets.{Lit, atom, negated, named, In, Before, Differing}
+use Rattle.literals.specs.Settling.{Earlier, HighestIn, Highest, AgreeBefore, FirstDifferenceAt, FirstDifference, FirstDecides}
 use Rattle.literals.proofs.Bitsets.{none-has, same-bits, highest-decides}
 use Rattle.literals.proofs.SetLaws.{same-sets, present}
 
@@ -35,10 +35,6 @@ highest-negated s h none top = record { there = top .there; first = f } where
     by-order (inl e) = inl (ap negated e)
     by-order (inr (inl l)) = inr l
     by-order (inr (inr g)) = absurd (omega (arith, top .last a p))
-
-pub highest-none : (s : LiteralSet) → s .plus ≡ 0 → s .minus ≡ 0 → (l : Lit) → In s l → ⊥
-highest-none s p m (atom a) h = none-has a (subst (λ w. Has w a) p h)
-highest-none s p m (negated a) h = none-has a (subst (λ w. Has w a) m h)
 
 -- the literal made of a code, as `Literal::new` makes it
 pub highest-made : (s : LiteralSet) (code : ℕ) (k : Lit) (o : Option Literal)

@@ -1,5 +1,5 @@
 -- The two sides of picks stay sound, and picks are known by them.
-use mathlib.Core.Path.{_≡_, subst, sym, ap, _∙_}
+use mathlib.Core.Path.{_≡_, subst}
 use mathlib.Core.HLevel.{isProp→PathP}
 use mathlib.Core.Logic.{_⊎_, inl, inr, ⊎-elim}
 use native.Mathlib.Omega.{arith}
@@ -8,7 +8,7 @@ use denote.Struct.Props.{props}
 use Rattle.literals.specs.declared.literal_set.LiteralSet.{LiteralSet}
 use Rattle.literals.specs.declared.picks.Picks.{Picks, sound-type}
 use Rattle.literals.specs.declared.picks.Side.the-variants.{Required, Excluded}
-use Rattle.literals.specs.Sets.{Lit, atom, negated, In, _⊑_, Disjoint, Consistent, Added, Removed, opposite-of}
+use Rattle.literals.specs.Sets.{Lit, atom, negated, In, _⊑_, Disjoint, Consistent, Added, opposite-of}
 use Rattle.literals.specs.Sound.{SoundPicks}
 use Rattle.literals.specs.Picking.{KnownBySides}
 use Rattle.literals.proofs.SetLaws.{same-sets}

@@ -1,8 +1,8 @@
 -- Bounds: those of picks, and the first literal that they leave open.
 use mathlib.Core.Path.{_≡_, sym, subst}
-use mathlib.Core.Logic.{_⊎_, inl, inr, ⊎-elim}
+use mathlib.Core.Logic.{⊎-elim}
 use native.Mathlib.Omega.{arith}
-use Prim.Native.Nat.{_-_, _^_, _<_}
+use Prim.Native.Nat.{_-_, _^_}
 use Rattle.std.specs.declared.option.Option.{Option}
 use Rattle.std.specs.declared.option.Option.the-variants.{Some, None}
 use Rattle.literals.specs.declared.bounds.Bounds.{Bounds}
@@ -10,7 +10,7 @@ use Rattle.literals.specs.declared.fit.Fit.{Fit}
 use Rattle.literals.specs.declared.literal.Literal.{Literal}
 use Rattle.literals.specs.declared.literal_set.LiteralSet.{LiteralSet}
 use Rattle.literals.specs.declared.picks.Picks.{Picks}
-use Rattle.literals.specs.Sets.{Lit, atom, negated, named, In, _⊑_, Disjoint, Difference}
+use Rattle.literals.specs.Sets.{Lit, atom, negated, named, In, _⊑_, Difference}
 use Rattle.literals.specs.Settling.{Earlier, HighestIn, Highest}
 use Rattle.literals.specs.Between.{Between, Coded, BoundsOf, FirstOpenAt, FirstOpen}
 use Rattle.literals.proofs.Bitsets.{has-below, has-ones}

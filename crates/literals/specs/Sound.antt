@@ -3,10 +3,6 @@ use Prim.Native.Nat.{_^_, _<_}
 use Rattle.literals.specs.declared.literal_set.LiteralSet.{LiteralSet}
 use Rattle.literals.specs.Sets.{Consistent, Disjoint}
 
--- two words of 64 bits
-abbrev pub Bounded : LiteralSet → Type 0
-Bounded s = (s .plus < 2 ^ 64) × (s .minus < 2 ^ 64)
-
 -- two words of 64 bits, no bit set in both
 abbrev pub SoundFit : LiteralSet → Type 0
 SoundFit s = (s .plus < 2 ^ 64) × (s .minus < 2 ^ 64) × Consistent s
