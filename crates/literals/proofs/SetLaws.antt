@@ -3,7 +3,7 @@ use mathlib.Core.Path.{_≡_, refl, sym, ap, subst, _∙_}
 use mathlib.Core.Logic.{_⊎_, inl, inr, ⊎-elim}
 use Prim.Native.Nat.{ℕ, zero, suc, _+_, _-_, _*_, _/_, _%_, _^_, _≤_, _<_}
 use native.Mathlib.Omega.{arith}
-use lib.Bits.{bitAnd, bitOr}
+use lib.Bits.{bitAnd, bitOr, bitXor}
 use lib.Count.{ones, ones-le}
 use native.Mathlib.Nat.{lt-of-not-le}
 use lib.Dec.{eqb}
@@ -11,9 +11,9 @@ use mathlib.Core.Bool.{true, false}
 use Rattle.std.proofs.shelf.Bits.{one-shl}
 use Rattle.std.proofs.shelf.Tests.{eq-eqb, ne-eqb}
 use Rattle.literals.specs.Words.{Has, _⊆_, Apart}
-use Rattle.literals.specs.Sets.{Lit, atom, negated, In, _⊑_, Disjoint, Consistent, common, size, Before, Single, named, Union, Shared, Difference}
+use Rattle.literals.specs.Sets.{Lit, atom, negated, In, _⊑_, Disjoint, Consistent, common, size, Before, Single, named, Union, Shared, Difference, Differing}
 use Rattle.literals.specs.declared.literal_set.LiteralSet.{LiteralSet}
-use Rattle.literals.proofs.Bitsets.{has-or-not, none-has, has-pow, pow-has, has-and, and-has, has-or-l, has-or-r, or-has, has-not, not-has, has-below, same-bits, sub-le, ones-sub, ones-same, and-sub, sub-and, and-apart, apart-and}
+use Rattle.literals.proofs.Bitsets.{has-or-not, none-has, has-pow, pow-has, has-and, and-has, has-or-l, has-or-r, or-has, has-not, not-has, has-below, xor-has, has-xor-l, has-xor-r, same-bits, sub-le, ones-sub, ones-same, and-sub, sub-and, and-apart, apart-and}
 
 -- ---- from words to sets and back
 
@@ -74,6 +74,20 @@ shared-is x y = record { left = l; right = r; all = o } where
   o : (k : Lit) → In x k → In y k → In (record { plus = bitAnd (x .plus) (y .plus); minus = bitAnd (x .minus) (y .minus) }) k
   o (atom a) = has-and (x .plus) (y .plus) a
   o (negated a) = has-and (x .minus) (y .minus) a
+
+pub differing-is : (x y : LiteralSet) → Differing x y (record { plus = bitXor (x .plus) (y .plus); minus = bitXor (x .minus) (y .minus) })
+differing-is x y = record { one = o; left = l; right = r } where
+  o : (k : Lit) → In (record { plus = bitXor (x .plus) (y .plus); minus = bitXor (x .minus) (y .minus) }) k → (In x k × (In y k → ⊥)) ⊎ ((In x k → ⊥) × In y k)
+  o (atom a) = xor-has (x .plus) (y .plus) a
+  o (negated a) = xor-has (x .minus) (y .minus) a
+
+  l : (k : Lit) → In x k → (In y k → ⊥) → In (record { plus = bitXor (x .plus) (y .plus); minus = bitXor (x .minus) (y .minus) }) k
+  l (atom a) = has-xor-l (x .plus) (y .plus) a
+  l (negated a) = has-xor-l (x .minus) (y .minus) a
+
+  r : (k : Lit) → (In x k → ⊥) → In y k → In (record { plus = bitXor (x .plus) (y .plus); minus = bitXor (x .minus) (y .minus) }) k
+  r (atom a) = has-xor-r (x .plus) (y .plus) a
+  r (negated a) = has-xor-r (x .minus) (y .minus) a
 
 -- the words of a difference, at 64 bits
 abbrev gap : ℕ → ℕ → ℕ

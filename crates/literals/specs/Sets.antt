@@ -70,3 +70,26 @@ pub record Difference (x y r : LiteralSet) : Type 0 where
   pub left : r ⊑ x
   pub apart : Disjoint r y
   pub all : (l : Lit) → In x l → (In y l → ⊥) → In r l
+
+-- r has the literals that are in one of x and y alone
+pub record Differing (x y r : LiteralSet) : Type 0 where
+  pub one : (l : Lit) → In r l → (In x l × (In y l → ⊥)) ⊎ ((In x l → ⊥) × In y l)
+  pub left : (l : Lit) → In x l → (In y l → ⊥) → In r l
+  pub right : (l : Lit) → (In x l → ⊥) → In y l → In r l
+
+-- the strong negation of an atom, and the atom of a strong negation
+abbrev pub opposite-of : Lit → Lit
+opposite-of (atom a) = negated a
+opposite-of (negated a) = atom a
+
+-- r has k, and else what x has
+pub record Added (x : LiteralSet) (k : Lit) (r : LiteralSet) : Type 0 where
+  pub there : In r k
+  pub kept : x ⊑ r
+  pub only : (l : Lit) → In r l → In x l ⊎ (l ≡ k)
+
+-- r has what x has, but for k
+pub record Removed (x : LiteralSet) (k : Lit) (r : LiteralSet) : Type 0 where
+  pub gone : In r k → ⊥
+  pub left : r ⊑ x
+  pub kept : (l : Lit) → In x l → (l ≡ k → ⊥) → In r l
