@@ -95,22 +95,22 @@ none-of-last m k [] h l = (refl, refl)
 none-of-last m k (a ∷ rows) h l = let other = ne-eqb (a .wish + 1) m (λ e. omega arith) in (cond-false _ _ _ other, cond-false _ _ _ other)
 
 -- the frames behind m wishes, the last of which may still get alternatives
-abbrev shape : ℕ → ℕ → List WishRow → List AlternativeRow → List Frame
+abbrev pub shape : ℕ → ℕ → List WishRow → List AlternativeRow → List Frame
 shape r m ws rows = map alternativeFrame (ofLast m rows) ++ wishFrames r m ws (pastLast m rows)
 
-shape-none : (r m : ℕ) (ws : List WishRow) (rows : List AlternativeRow) → (ofLast m rows ≡ []) × (pastLast m rows ≡ rows) → shape r m ws rows ≡ wishFrames r m ws rows
+pub shape-none : (r m : ℕ) (ws : List WishRow) (rows : List AlternativeRow) → (ofLast m rows ≡ []) × (pastLast m rows ≡ rows) → shape r m ws rows ≡ wishFrames r m ws rows
 shape-none r m ws rows p = ap (λ x. map alternativeFrame x ++ wishFrames r m ws (pastLast m rows)) (p .0) ∙ ap (wishFrames r m ws) (p .1)
 
 -- a rank step before a wish of a higher rank
-step-in : (r m : ℕ) (w : WishRow) (ws : List WishRow) (rows : List AlternativeRow) → r + 1 ≤ w .rank → RankStep ∷ wishFrames (r + 1) m (w ∷ ws) rows ≡ wishFrames r m (w ∷ ws) rows
+pub step-in : (r m : ℕ) (w : WishRow) (ws : List WishRow) (rows : List AlternativeRow) → r + 1 ≤ w .rank → RankStep ∷ wishFrames (r + 1) m (w ∷ ws) rows ≡ wishFrames r m (w ∷ ws) rows
 step-in r m w ws rows h =
     let more : suc (w .rank - (r + 1)) ≡ w .rank - r = omega arith in
     let same : r + 1 + (w .rank - (r + 1)) ≡ r + (w .rank - r) = omega arith in
     let after : ℕ → List Frame = λ k. Wish (w .body) ∷ (map alternativeFrame (ofLast (m + 1) rows) ++ wishFrames k (m + 1) ws (pastLast (m + 1) rows)) in
     ap (λ k. RankStep ∷ (steps (w .rank - (r + 1)) ++ after k)) same ∙ ap (λ k. steps k ++ after (r + (w .rank - r))) more
 
--- a wish of the rank that is reached
-wish-in : (r m : ℕ) (w : WishRow) (ws : List WishRow) (rows : List AlternativeRow) → w .rank ≡ r → Wish (w .body) ∷ shape r (m + 1) ws rows ≡ wishFrames r m (w ∷ ws) rows
+-- a wish of a rank that is reached
+pub wish-in : (r m : ℕ) (w : WishRow) (ws : List WishRow) (rows : List AlternativeRow) → w .rank ≤ r → Wish (w .body) ∷ shape r (m + 1) ws rows ≡ wishFrames r m (w ∷ ws) rows
 wish-in r m w ws rows e =
     let none : 0 ≡ w .rank - r = omega arith in
     let same : r ≡ r + (w .rank - r) = omega arith in
@@ -118,7 +118,7 @@ wish-in r m w ws rows e =
     ap after same ∙ ap (λ k. steps k ++ after (r + (w .rank - r))) none
 
 -- an alternative of the last wish
-alternative-in : (r m : ℕ) (ws : List WishRow) (a : AlternativeRow) (rows : List AlternativeRow) → a .wish + 1 ≡ m → alternativeFrame a ∷ shape r m ws rows ≡ shape r m ws (a ∷ rows)
+pub alternative-in : (r m : ℕ) (ws : List WishRow) (a : AlternativeRow) (rows : List AlternativeRow) → a .wish + 1 ≡ m → alternativeFrame a ∷ shape r m ws rows ≡ shape r m ws (a ∷ rows)
 alternative-in r m ws a rows e =
     let here = eq-eqb (a .wish + 1) m e in
     sym (ap (λ x. map alternativeFrame x ++ wishFrames r m ws (pastLast m (a ∷ rows))) (cond-true _ _ _ here) ∙ ap (λ x. alternativeFrame a ∷ (map alternativeFrame (ofLast m rows) ++ wishFrames r m ws x)) (cond-true _ _ _ here))
@@ -185,7 +185,7 @@ module _ (before : List Frame) (s n r m : ℕ) (rank : r ≡ s + 1) (number : m 
       let none = none-of-last m (m + 1) rows (omega arith) (late (s + 0) (n + 1) (m + 1) tail (omega arith) (omega arith)) in
       record {
         ruleless = ih .ruleless;
-        shaped = grow (Wish body) before _ _ tail (ih .shaped) (wish-in r m w all rows (sym rank) ∙ sym (shape-none r m (w ∷ all) rows none));
+        shaped = grow (Wish body) before _ _ tail (ih .shaped) (wish-in r m w all rows (omega arith) ∙ sym (shape-none r m (w ∷ all) rows none));
         ahead = λ e. (w, all, refl, omega arith);
         apart = λ e. none;
       }

@@ -5,3 +5,4 @@ pub mod BookTurns
 pub mod RowLaws
 pub mod FillLaws
 pub mod ReadLaws
+pub mod SourceLaws

@@ -3,6 +3,7 @@ mod book;
 mod book_size;
 mod catalogue;
 mod fault;
+mod frame_source;
 mod judge;
 mod rows;
 mod seen;
