@@ -17,7 +17,7 @@ use frames::Frame;
 use frames::read_frame;
 
 // The longest text, in bytes.
-const LIMIT: usize = 1_048_576;
+pub const LIMIT: usize = 1_048_576;
 
 // The frame at the front of a text, where it may come next, together with the text that follows it.
 pub fn next_frame(kind: TextKind, seen: Seen, text: &[u8]) -> Result<(Frame, &[u8]), Fault>

@@ -7,6 +7,7 @@ mod frame_source;
 mod judge;
 mod rows;
 mod seen;
+mod writing;
 
 pub use book::read_book;
 pub use book_size::BookSize;
