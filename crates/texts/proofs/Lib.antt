@@ -4,3 +4,5 @@ pub mod TurnLaws
 pub mod BookTurns
 pub mod RowLaws
 pub mod FillLaws
+pub mod TextFrames
+pub mod CatalogueTables
