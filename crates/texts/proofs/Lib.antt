@@ -6,3 +6,4 @@ pub mod RowLaws
 pub mod FillLaws
 pub mod TextFrames
 pub mod CatalogueTables
+pub mod BookTables
