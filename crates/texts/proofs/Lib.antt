@@ -7,3 +7,5 @@ pub mod FillLaws
 pub mod TextFrames
 pub mod CatalogueTables
 pub mod BookTables
+pub mod BookRows
+pub mod RoundTrip
