@@ -1,8 +1,8 @@
 -- The tables that an accepted book gives are writable, and their numbers fit.
-use Prim.Native.Nat.{ℕ, suc, _+_, _-_, _<_, _≤_, _^_}
+use Prim.Native.Nat.{ℕ, _+_, _-_, _<_, _≤_, _^_}
 use native.Mathlib.Omega.{arith}
 use mathlib.Core.Path.{_≡_, refl, sym, ap, subst, _∙_}
-use mathlib.Core.Bool.{true, false, cond, not, _&&_}
+use mathlib.Core.Bool.{true, false, cond, not}
 use mathlib.Core.List.{List, [], _∷_, _++_}
 use lib.Dec.{leb, ltb}
 use lib.ListN.{length}
@@ -116,16 +116,17 @@ pub book-writable : (fs : List Frame) → AllGood fs → InTurn Book [] fs → e
 book-writable fs good turn done short =
     let t : Tables = tablesOf fs in
     let is = book-frames fs turn done in
-    let count = length (bookFrames t) in
+    let number = length (bookFrames t) in
     let Goods : List Frame → Type 0 = λ x. AllGood x in
-    let few : count < 2 ^ 16 = good-last (bookFrames t) (End count) (subst Goods is good) .0 in
-    let long = ap length is ∙ length-append (bookFrames t) (End count ∷ []) in
+    let few : number < 2 ^ 16 = good-last (bookFrames t) (End number) (subst Goods is good) .0 in
+    let long = ap length is ∙ length-append (bookFrames t) (End number ∷ []) in
     let wishes-few′ = wishes-few 0 0 fs in
     let law = lawful (length (rowsIn wishIn fs)) (omega arith) fs [] 0 0 refl (omega arith) (λ e. absurd (false≢true e)) (omega arith) good turn in
     let (fit-rules, made-rules) = passed-all RuleFits makesRule (t .rules) (law .rules) in
     let (fit-wishes, made-wishes) = passed-all WishFits makesWish (t .wishes) (law .wishes) in
     let (fit-alternatives, made-alternatives) = passed-all AlternativeFits makesAlternative (t .alternatives) (law .alternatives) in
     let within : length (textOf (ending (bookFrames t))) ≤ limit = let e = ap (λ x. length (textOf x)) is in omega arith in
-    let held : holdable (bookFrames t) ≡ true = and-from _ _ (le-leb (length (textOf (ending (bookFrames t)))) limit within) (lt-ltb count 65536 few) in
-    ((fit-rules, fit-wishes, fit-alternatives),
-    and-from _ _ made-rules (and-from _ _ made-wishes (and-from _ _ made-alternatives (and-from _ _ (law .ranks-rise 0 (omega arith)) (and-from _ _ (law .owners-rise 0 (omega arith)) (and-from _ _ (law .owned) held))))))
+    let held : holdable (bookFrames t) ≡ true = and-from _ _ (le-leb (length (textOf (ending (bookFrames t)))) limit within) (lt-ltb number 65536 few) in (
+      (fit-rules, fit-wishes, fit-alternatives),
+      and-from _ _ made-rules (and-from _ _ made-wishes (and-from _ _ made-alternatives (and-from _ _ (law .ranks-rise 0 (omega arith)) (and-from _ _ (law .owners-rise 0 (omega arith)) (and-from _ _ (law .owned) held))))),
+    )

@@ -9,14 +9,13 @@ use lib.ListN.{length}
 use Rattle.std.specs.shelf.Lists.{All}
 use Rattle.std.proofs.shelf.Lists.{append-assoc, length-append, length-map}
 use Rattle.std.proofs.shelf.Tests.{and-parts, and-from, eq-eqb, eqb-true, eqb-false, le-leb, leb-true, lt-ltb, ltb-true, not-from-false, cond-both}
-use Rattle.literals.specs.declared.condition.Condition.{Condition}
 use Rattle.tables.specs.declared.row.RuleRow.{RuleRow}
 use Rattle.tables.specs.declared.row.WishRow.{WishRow}
 use Rattle.tables.specs.declared.row.AlternativeRow.{AlternativeRow}
 use Rattle.tables.specs.Rows.{makesRule, makesWish, makesAlternative}
 use Rattle.frames.specs.declared.frame.Frame.{Frame}
-use Rattle.frames.specs.declared.frame.Frame.the-variants.{Rule, RankStep, Wish, Alternative, End, Fit}
-use Rattle.frames.specs.Frames.{RuleFits, ConditionFits, Good}
+use Rattle.frames.specs.declared.frame.Frame.the-variants.{Rule, RankStep, Wish, End}
+use Rattle.frames.specs.Frames.{RuleFits, ConditionFits}
 use Rattle.texts.specs.declared.seen.TextKind.the-variants.{Book}
 use Rattle.texts.specs.Places.{isRule, isStep, isEnd, ofWish, every, count, last, ended}
 use Rattle.texts.specs.Reading.{limit}
@@ -120,7 +119,7 @@ end-read {before} k at off e few =
       alternatives-are = refl;
     }
 
--- Rows in front, whatever is behind them.
+-- Many frames in front; `next` says what is behind them, from what they leave known.
 module _ (tail : List Frame) (ws : List WishRow) (xs : List AlternativeRow) where
   rules-read : (rows : List RuleRow) (before : List Frame) (s n l : ℕ) → All GoodRule rows → every isRule before ≡ true → Behind before s l → s ≡ 0 → n ≡ 0 → last isStep before ≡ false
       → ((b : List Frame) (s′ n′ l′ : ℕ) → Behind b s′ l′ → s′ ≡ 0 → n′ ≡ 0 → l′ ≡ l + length rows → last isStep b ≡ false → Reads b s′ n′ tail [] ws xs) → Reads before s n (map Rule rows ++ tail) rows ws xs
@@ -236,7 +235,7 @@ pub record Written (t : Tables) : Type 0 where
   pub short : length (textOf (ending (bookFrames t))) ≤ limit
   pub gives : tablesOf (ending (bookFrames t)) ≡ t
 
--- a list that rises from 0, and of which each is at least `low`, rises from there
+-- ranks are at least 1
 from-one : (ws : List WishRow) → All GoodWish ws → rising 0 (ranks ws) ≡ true → rising 1 (ranks ws) ≡ true
 from-one [] g h = refl
 from-one (w ∷ ws) g h = and-from (leb 1 (w .rank)) _ (and-parts (leb 1 (w .rank)) (leb (w .rank) 16) (g .0 .1) .0) (and-parts (leb 0 (w .rank)) (rising (w .rank) (ranks ws)) h .1)

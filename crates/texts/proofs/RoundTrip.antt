@@ -13,7 +13,7 @@ use Rattle.texts.specs.declared.seen.TextKind.the-variants.{Book, Catalogue}
 use Rattle.texts.specs.Reading.{andThen, limit, framesIn}
 use Rattle.texts.specs.Rows.{fitIn, rowsIn, Tables, tablesOf, catalogue, book}
 use Rattle.texts.specs.Writing.{textOf, ending, fitFrames, bookFrames, catalogueText, bookText, writableCatalogue, writableBook}
-use Rattle.texts.specs.Meaning.{AllGood, TablesFit, SameCatalogueText, SameBookText, SameCatalogueRows, SameBookTables, GivenCatalogues, GivenBooks, AcceptedCatalogues, AcceptedBooks}
+use Rattle.texts.specs.Meaning.{TablesFit, SameCatalogueText, SameBookText, SameCatalogueRows, SameBookTables, GivenCatalogues, GivenBooks, AcceptedCatalogues, AcceptedBooks}
 use Rattle.texts.proofs.BookRows.{book-writable}
 use Rattle.texts.proofs.BookTables.{book-written}
 use Rattle.texts.proofs.BookTurns.{book-frames}
