@@ -37,7 +37,9 @@ record Lawful (N s n : ℕ) (tail : List Frame) : Type 0 where
   owners-rise : (low : ℕ) → low ≤ n - 1 → rising low (owners (rowsFrom alternativeIn s n tail)) ≡ true
 
 module _ (N : ℕ) (few : N ≤ 2 ^ 16) where
-  lawful : (tail before : List Frame) (s n : ℕ) → count isStep before ≡ s → s ≤ 15 → (last ofWish before ≡ true → 1 ≤ n) → n + length (rowsFrom wishIn s n tail) ≤ N → AllGood tail → InTurn Book before tail → Lawful N s n tail
+  -- good frames in turn give lawful rows
+  lawful : (tail before : List Frame) (s n : ℕ) → count isStep before ≡ s → s ≤ 15 → (last ofWish before ≡ true → 1 ≤ n)
+      → n + length (rowsFrom wishIn s n tail) ≤ N → AllGood tail → InTurn Book before tail → Lawful N s n tail
   lawful [] before s n es h on room g t = record {
     rules = tt;
     wishes = tt;
@@ -112,6 +114,7 @@ wishes-few s n (f ∷ fs) =
     let h = wishes-few (s + cond (isStep f) 1 0) (n + cond (isWish f) 1 0) fs in
     let o = onto-few (wishIn s n f) (rowsFrom wishIn (s + cond (isStep f) 1 0) (n + cond (isWish f) 1 0) fs) in omega arith
 
+-- an accepted book gives writable tables
 pub book-writable : (fs : List Frame) → AllGood fs → InTurn Book [] fs → ended fs ≡ true → length (textOf fs) ≤ limit → TablesFit (tablesOf fs) × (writableBook (tablesOf fs) ≡ true)
 book-writable fs good turn done short =
     let t : Tables = tablesOf fs in

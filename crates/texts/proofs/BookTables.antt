@@ -64,7 +64,8 @@ record Reads (before : List Frame) (s n : ℕ) (tail : List Frame) (rules : List
 
 -- One frame in front.
 module _ {before tail : List Frame} {s n : ℕ} {rs : List RuleRow} {ws : List WishRow} {xs : List AlternativeRow} where
-  rule-read : (row : RuleRow) → GoodRule row → every isRule before ≡ true → Reads (before ++ Rule row ∷ []) (s + 0) (n + 0) tail rs ws xs → Reads before s n (Rule row ∷ tail) (row ∷ rs) ws xs
+  rule-read : (row : RuleRow) → GoodRule row → every isRule before ≡ true
+      → Reads (before ++ Rule row ∷ []) (s + 0) (n + 0) tail rs ws xs → Reads before s n (Rule row ∷ tail) (row ∷ rs) ws xs
   rule-read row g h next = record {
     turn = (admits Book before (Rule row) h refl, next .turn);
     good = (g, next .good);
@@ -84,7 +85,8 @@ module _ {before tail : List Frame} {s n : ℕ} {rs : List RuleRow} {ws : List W
         alternatives-are = next .alternatives-are;
       }
 
-  wish-read : {l : ℕ} (w : WishRow) → Behind before s l → ConditionFits (w .body) → s + 1 ≡ w .rank → Reads (before ++ Wish (w .body) ∷ []) (s + 0) (n + 1) tail rs ws xs → Reads before s n (Wish (w .body) ∷ tail) rs (w ∷ ws) xs
+  wish-read : {l : ℕ} (w : WishRow) → Behind before s l → ConditionFits (w .body) → s + 1 ≡ w .rank
+      → Reads (before ++ Wish (w .body) ∷ []) (s + 0) (n + 1) tail rs ws xs → Reads before s n (Wish (w .body) ∷ tail) rs (w ∷ ws) xs
   wish-read w at g e next =
       let same : _≡_ {A = WishRow} (record { rank = s + 1; body = w .body }) w = λ i. record { rank = e i; body = w .body } in
       record {
@@ -95,7 +97,8 @@ module _ {before tail : List Frame} {s n : ℕ} {rs : List RuleRow} {ws : List W
         alternatives-are = next .alternatives-are;
       }
 
-  alternative-read : (a : AlternativeRow) → GoodAlternative a → last ofWish before ≡ true → n ≡ a .wish + 1 → Reads (before ++ alternativeFrame a ∷ []) (s + 0) (n + 0) tail rs ws xs → Reads before s n (alternativeFrame a ∷ tail) rs ws (a ∷ xs)
+  alternative-read : (a : AlternativeRow) → GoodAlternative a → last ofWish before ≡ true → n ≡ a .wish + 1
+      → Reads (before ++ alternativeFrame a ∷ []) (s + 0) (n + 0) tail rs ws xs → Reads before s n (alternativeFrame a ∷ tail) rs ws (a ∷ xs)
   alternative-read a g h e next =
       let number : n - 1 ≡ a .wish = omega arith in
       let same : _≡_ {A = AlternativeRow} (record { wish = n - 1; level = a .level; condition = a .condition }) a =
@@ -126,7 +129,8 @@ module _ (tail : List Frame) (ws : List WishRow) (xs : List AlternativeRow) wher
   rules-read [] before s n l g h at es en off next = next before s n l at es en (omega arith) off
   rules-read (row ∷ rows) before s n l g h at es en off next =
       rule-read row (g .0) h
-      (rules-read rows (before ++ Rule row ∷ []) (s + 0) (n + 0) (l + 1) (g .1) (every-more isRule (Rule row) before ∙ ap (λ b. b && true) h) (further (Rule row) before s l refl at) (omega arith) (omega arith) (last-more false isStep (Rule row) before)
+      (rules-read rows (before ++ Rule row ∷ []) (s + 0) (n + 0) (l + 1) (g .1) (every-more isRule (Rule row) before ∙ ap (λ b. b && true) h)
+      (further (Rule row) before s l refl at) (omega arith) (omega arith) (last-more false isStep (Rule row) before)
       (λ b s′ n′ l′ at′ es′ en′ el off′. next b s′ n′ l′ at′ es′ en′ (omega arith) off′))
 
 module _ (tail : List Frame) (rs : List RuleRow) (ws : List WishRow) (xs : List AlternativeRow) where
@@ -137,13 +141,15 @@ module _ (tail : List Frame) (rs : List RuleRow) (ws : List WishRow) (xs : List 
       step-read at (omega arith)
       (steps-read k (before ++ RankStep ∷ []) (s + 1) (n + 0) (l + 1) (further RankStep before s l refl at) (omega arith) (λ b s′ n′ l′ at′ es en el. next b s′ n′ l′ at′ (omega arith) (omega arith) (omega arith)))
 
-  alternatives-read : (ys : List AlternativeRow) (before : List Frame) (s n m l : ℕ) → All GoodAlternative ys → All (λ a. a .wish + 1 ≡ m) ys → n ≡ m → Behind before s l → last ofWish before ≡ true → last isStep before ≡ false
+  alternatives-read : (ys : List AlternativeRow) (before : List Frame) (s n m l : ℕ) → All GoodAlternative ys → All (λ a. a .wish + 1 ≡ m) ys → n ≡ m
+      → Behind before s l → last ofWish before ≡ true → last isStep before ≡ false
       → ((b : List Frame) (s′ n′ l′ : ℕ) → Behind b s′ l′ → s′ ≡ s → n′ ≡ m → l′ ≡ l + length ys → last isStep b ≡ false → Reads b s′ n′ tail rs ws xs) → Reads before s n (map alternativeFrame ys ++ tail) rs ws (ys ++ xs)
   alternatives-read [] before s n m l g own e at on off next = next before s n l at refl e (omega arith) off
   alternatives-read (a ∷ ys) before s n m l g own e at on off next =
       let mine = own .0 in
       alternative-read a (g .0) on (omega arith)
-      (alternatives-read ys (before ++ alternativeFrame a ∷ []) (s + 0) (n + 0) m (l + 1) (g .1) (own .1) (omega arith) (further (alternativeFrame a) before s l refl at) (last-more false ofWish (alternativeFrame a) before) (last-more false isStep (alternativeFrame a) before)
+      (alternatives-read ys (before ++ alternativeFrame a ∷ []) (s + 0) (n + 0) m (l + 1) (g .1) (own .1) (omega arith)
+      (further (alternativeFrame a) before s l refl at) (last-more false ofWish (alternativeFrame a) before) (last-more false isStep (alternativeFrame a) before)
       (λ b s′ n′ l′ at′ es en el off′. next b s′ n′ l′ at′ (omega arith) en (omega arith) off′))
 
 -- The alternatives of a wish, and those behind them.
@@ -224,7 +230,8 @@ wishes-read (w ∷ ws) rows before s m r n l k N er em at off gw up go up′ eN 
     (steps-read (Wish (w .body) ∷ (mine ++ (later ++ end))) [] (w ∷ ws) (own ++ past) d before s m l at (omega arith)
     (λ b s₁ m₁ l₁′ at₁ es em₁ el.
     wish-read w at₁ (gw .0 .0 .1) (omega arith)
-    (alternatives-read (later ++ end) [] ws past own (b ++ Wish (w .body) ∷ []) (s₁ + 0) (m₁ + 1) (n + 1) (l₁′ + 1) (owned-good N own go₁) (own-rows (n + 1) rows) (omega arith) (further (Wish (w .body)) b s₁ l₁′ refl at₁) (last-more false ofWish (Wish (w .body)) b) (last-more false isStep (Wish (w .body)) b)
+    (alternatives-read (later ++ end) [] ws past own (b ++ Wish (w .body) ∷ []) (s₁ + 0) (m₁ + 1) (n + 1) (l₁′ + 1) (owned-good N own go₁) (own-rows (n + 1) rows) (omega arith)
+    (further (Wish (w .body)) b s₁ l₁′ refl at₁) (last-more false ofWish (Wish (w .body)) b) (last-more false isStep (Wish (w .body)) b)
     (λ c s₂ m₂ l₂′ at₂ es₂ em₂ el₂ off₂.
     wishes-read ws past c s₂ m₂ (r + (w .rank - r)) (n + 1) l₂′ k N (omega arith) em₂ at₂ off₂ (gw .1) (ap (λ j. rising j (ranks ws)) (sym same) ∙ up₁) go₂ (later-rows n rows up′) (omega arith) (omega arith) few)))))
 
@@ -244,7 +251,9 @@ all-owned : (N : ℕ) (xs : List AlternativeRow) → All GoodAlternative xs → 
 all-owned N [] g h = tt
 all-owned N (a ∷ xs) g h = let q = and-parts (ltb (a .wish) N) (each (λ x. ltb (x .wish) N) xs) h in ((g .0, ltb-true (a .wish) N (q .0)), all-owned N xs (g .1) (q .1))
 
-book-read : (t : Tables) (N k : ℕ) → All GoodRule (t .rules) → All GoodWish (t .wishes) → All (Owned N) (t .alternatives) → rising 1 (ranks (t .wishes)) ≡ true → rising 0 (owners (t .alternatives)) ≡ true → N ≡ length (t .wishes)
+-- Rules, then wishes and their alternatives, then the end.
+book-read : (t : Tables) (N k : ℕ) → All GoodRule (t .rules) → All GoodWish (t .wishes) → All (Owned N) (t .alternatives)
+    → rising 1 (ranks (t .wishes)) ≡ true → rising 0 (owners (t .alternatives)) ≡ true → N ≡ length (t .wishes)
     → k ≡ length (bookFrames t) → k < 2 ^ 16 → Reads [] 0 0 (bookFrames t ++ End k ∷ []) (t .rules) (t .wishes) (t .alternatives)
 book-read t N k gr gw go up up′ eN ek few =
     let wishes = wishFrames 1 0 (t .wishes) (t .alternatives) in
@@ -255,6 +264,7 @@ book-read t N k gr gw go up up′ eN ek few =
     (rules-read (wishes ++ End k ∷ []) (t .wishes) (t .alternatives) (t .rules) [] 0 0 0 gr refl (record { going = refl; stepped = refl; long = refl }) refl refl refl
     (λ b s n l at es en el off. wishes-read (t .wishes) (t .alternatives) b s n 1 0 l k N (omega arith) en at off gw up go up′ (omega arith) (omega arith) few))
 
+-- writable tables are read back from their frames
 pub book-written : (t : Tables) → TablesFit t → writableBook t ≡ true → Written t
 book-written t fit w =
     let (made-rules, w₁) = and-parts (each makesRule (t .rules)) _ w in
