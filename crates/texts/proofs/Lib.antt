@@ -6,3 +6,9 @@ pub mod RowLaws
 pub mod FillLaws
 pub mod ReadLaws
 pub mod SourceLaws
+pub mod TextFrames
+pub mod CatalogueTables
+pub mod BookTables
+pub mod BookRows
+pub mod RoundTrip
+pub mod WriteLaws
