@@ -40,3 +40,78 @@ too-many fs h = and-right _ _ (le-ltb (length fs) 65536 h)
 
 pub can-hold : (fs : List Frame) → 9 + length (textOf fs) ≤ limit → length fs < 65536 → holdable fs ≡ true
 can-hold fs h k = let long = ending-long fs in and-from _ _ (le-leb (length (textOf (ending fs))) limit (omega arith)) (lt-ltb (length fs) 65536 k)
+
+-- a line written into the tail of a buffer, behind what was done
+module _ (out₀ out done : List ℕ) (at : ℕ) (here : length done ≡ at) (so-far : out ≡ done ++ drop at out₀) where
+  pub tail-starts : at ≤ length out
+  tail-starts = let long = ap length so-far ∙ length-append done (drop at out₀) in omega arith
+
+  abbrev tail : List ℕ
+  tail = take (length out - at) (drop at out)
+
+  tail-same : tail ≡ drop at out₀
+  tail-same = tail-is out done (drop at out₀) at so-far here
+
+  module _ (line : List ℕ) (room : at + length line ≤ length out₀) where
+    fits : ltb (length tail) (length line) ≡ false
+    fits = let long = ap length tail-same ∙ length-drop at out₀ in le-ltb (length tail) (length line) (omega arith)
+
+    pub has-room : wroteIn line tail ≡ Some (length line)
+    has-room = cond-false _ _ _ fits
+
+    pub written-behind : (last : List ℕ) → last ≡ writtenIn line tail → putMid at (length out - at) out last ≡ (done ++ line) ++ drop (at + length line) out₀
+    written-behind last e =
+        tail-written out last done (drop at out₀) at so-far here ∙ ap (λ t. done ++ t) (e ∙ cond-false _ _ _ fits ∙ ap (λ t. line ++ drop (length line) t) tail-same ∙ ap (λ t. line ++ t) (drop-drop (length line) at out₀ ∙ ap (λ k. drop k out₀) (omega arith)))
+        ∙ sym (append-assoc done line (drop (at + length line) out₀))
+
+-- the lines so far stand at the front of a buffer, and the rest is as it was
+pub record Written (text out₀ out : List ℕ) (at : ℕ) (fs : List Frame) (done : List ℕ) : Type 0 where
+  pub here : length done ≡ at
+  pub rest : text ≡ done ++ textOf fs
+  pub so-far : out ≡ done ++ drop at out₀
+
+module _ {text out₀ out : List ℕ} {at : ℕ} {fs : List Frame} {done : List ℕ} (w : Written text out₀ out at fs done) (whole : length text ≤ length out₀) where
+  pub write-start : at ≤ length out
+  write-start = tail-starts out₀ out done at (w .here) (w .so-far)
+
+  module _ {f : Frame} {later : List Frame} (next : fs ≡ f ∷ later) where
+    text-here : text ≡ (done ++ lineFor f) ++ textOf later
+    text-here = w .rest ∙ ap (λ x. done ++ textOf x) next ∙ sym (append-assoc done (lineFor f) (textOf later))
+
+    pub write-room : at + length (lineFor f) ≤ length out₀
+    write-room =
+        let long = ap length text-here ∙ length-append (done ++ lineFor f) (textOf later) in
+        let front = length-append done (lineFor f) in
+        let same = w .here in omega arith
+
+    pub write-result : {r : Option ℕ} → r ≡ wroteIn (lineFor f) (take (length out - at) (drop at out)) → r ≡ Some (length (lineFor f))
+    write-result e = e ∙ has-room out₀ out done at (w .here) (w .so-far) (lineFor f) write-room
+
+    pub write-again : {last : List ℕ} {at′ : ℕ} → last ≡ writtenIn (lineFor f) (take (length out - at) (drop at out)) → at′ ≡ at + length (lineFor f) → Written text out₀ (putMid at (length out - at) out last) at′ later (done ++ lineFor f)
+    write-again {last} {at′} e k =
+        record {
+          here = length-append done (lineFor f) ∙ ap (λ n. n + length (lineFor f)) (w .here) ∙ sym k;
+          rest = text-here;
+          so-far = written-behind out₀ out done at (w .here) (w .so-far) (lineFor f) write-room last e ∙ ap (λ n. (done ++ lineFor f) ++ drop n out₀) (sym k);
+        }
+
+  pub write-done : fs ≡ [] → (at ≡ length text) × (out ≡ text ++ drop (length text) out₀)
+  write-done none =
+      let all : text ≡ done = w .rest ∙ ap (λ x. done ++ textOf x) none ∙ append-nil done in
+      let long : at ≡ length text = sym (w .here) ∙ ap length (sym all) in
+      (long, w .so-far ∙ ap (λ t. t ++ drop at out₀) (sym all) ∙ ap (λ n. text ++ drop n out₀) long)
+
+-- the end frame's line behind the others
+module _ (fs : List Frame) (out₀ out : List ℕ) (at : ℕ) (here : at ≡ length (textOf fs)) (so-far : out ≡ textOf fs ++ drop (length (textOf fs)) out₀) where
+  lines-stand : out ≡ textOf fs ++ drop at out₀
+  lines-stand = so-far ∙ ap (λ k. textOf fs ++ drop k out₀) (sym here)
+
+  pub end-start : at ≤ length out
+  end-start = tail-starts out₀ out (textOf fs) at (sym here) lines-stand
+
+  pub text-written : (last : List ℕ) (count : ℕ) → count ≡ length fs → length (textOf (ending fs)) ≤ length out₀ → last ≡ writtenIn (lineFor (End count)) (take (length out - at) (drop at out))
+      → putMid at (length out - at) out last ≡ textOf (ending fs) ++ drop (length (textOf (ending fs))) out₀
+  text-written last count same room e =
+      let long = ending-long fs in
+      written-behind out₀ out (textOf fs) at (sym here) lines-stand (lineFor (End count)) (omega arith) last e ∙ ap (λ k. (textOf fs ++ lineFor (End k)) ++ drop (at + 9) out₀) same
+      ∙ ap (λ t. t ++ drop (at + 9) out₀) (sym (ending-text fs)) ∙ ap (λ k. textOf (ending fs) ++ drop k out₀) (omega arith)

@@ -18,6 +18,7 @@ use frames::write_frame;
 const END_LINE: usize = 9;
 
 // The length of a text in bytes, and the number of its frames before the end frame.
+#[derive(Clone, Copy)]
 struct TextSize {
     bytes: usize,
     frames: u16,
@@ -58,4 +59,26 @@ fn write_lines<F: FrameSource + Copy>(frames: F, out: &mut [u8]) -> usize
         at += length;
     }
     at
+}
+
+// Writes the text of frames, the end frame included, at the front of a buffer; how many bytes it has. A refusal leaves the buffer as it was.
+pub fn write_text<F: FrameSource + Copy>(frames: F, out: &mut [u8]) -> Result<usize, Refusal>
+    ensures result { λ r. ⌜ r ≡ writeText (holdable (left frames)) (textOf (ending (left frames))) (length (now (out .entry))) ⌝ }
+    ensures buffer { λ r. ⌜ now (out .exit) ≡ written r (textOf (ending (left frames))) (now (out .entry)) ⌝ }
+{
+    let Some(size) = measure(frames) else {
+        return Err(Refusal {
+            fault: Fault::NoText,
+            line: 0,
+        });
+    };
+    if out.len() < size.bytes {
+        return Err(Refusal {
+            fault: Fault::BufferShort,
+            line: 0,
+        });
+    }
+    let at = write_lines(frames, out);
+    let _ = write_frame(Frame::End(size.frames), &mut out[at..]);
+    Ok(size.bytes)
 }
