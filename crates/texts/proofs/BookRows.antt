@@ -131,5 +131,5 @@ book-writable fs good turn done short =
     let within : length (textOf (ending (bookFrames t))) ≤ limit = let e = ap (λ x. length (textOf x)) is in omega arith in
     let held : holdable (bookFrames t) ≡ true = and-from _ _ (le-leb (length (textOf (ending (bookFrames t)))) limit within) (lt-ltb number 65536 few) in (
       (fit-rules, fit-wishes, fit-alternatives),
-      and-from _ _ made-rules (and-from _ _ made-wishes (and-from _ _ made-alternatives (and-from _ _ (law .ranks-rise 0 (omega arith)) (and-from _ _ (law .owners-rise 0 (omega arith)) (and-from _ _ (law .owned) held))))),
+      and-from _ _ made-rules (and-from _ _ made-wishes (and-from _ _ made-alternatives (and-from _ _ (and-from _ _ (law .ranks-rise 0 (omega arith)) (and-from _ _ (law .owners-rise 0 (omega arith)) (law .owned))) held))),
     )

@@ -20,7 +20,7 @@ use Rattle.texts.specs.declared.seen.TextKind.the-variants.{Book}
 use Rattle.texts.specs.Places.{isRule, isStep, isEnd, ofWish, every, count, last, ended}
 use Rattle.texts.specs.Reading.{limit}
 use Rattle.texts.specs.Rows.{ruleIn, wishIn, alternativeIn, rowsFrom, Tables, tablesOf}
-use Rattle.texts.specs.Writing.{textOf, ending, steps, alternativeFrame, ofLast, pastLast, wishFrames, bookFrames, each, rising, holdable, writableBook}
+use Rattle.texts.specs.Writing.{textOf, ending, steps, alternativeFrame, ofLast, pastLast, wishFrames, bookFrames, each, rising, holdable, orderly, writableBook}
 use Rattle.texts.specs.Meaning.{AllGood, InTurn, WishFits, AlternativeFits, TablesFit}
 use Rattle.texts.proofs.BookTurns.{every-more}
 use Rattle.texts.proofs.SummaryLaws.{one-more, some-more, last-more}
@@ -270,9 +270,9 @@ book-written t fit w =
     let (made-rules, w₁) = and-parts (each makesRule (t .rules)) _ w in
     let (made-wishes, w₂) = and-parts (each makesWish (t .wishes)) _ w₁ in
     let (made-alternatives, w₃) = and-parts (each makesAlternative (t .alternatives)) _ w₂ in
-    let (up, w₄) = and-parts (rising 0 (ranks (t .wishes))) _ w₃ in
-    let (up′, w₅) = and-parts (rising 0 (owners (t .alternatives))) _ w₄ in
-    let (own, held) = and-parts (each (λ a. ltb (a .wish) (length (t .wishes))) (t .alternatives)) (holdable (bookFrames t)) w₅ in
+    let (order, held) = and-parts (orderly (t .wishes) (t .alternatives)) (holdable (bookFrames t)) w₃ in
+    let (up, w₄) = and-parts (rising 0 (ranks (t .wishes))) _ order in
+    let (up′, own) = and-parts (rising 0 (owners (t .alternatives))) (each (λ a. ltb (a .wish) (length (t .wishes))) (t .alternatives)) w₄ in
     let (short, few) = and-parts (leb (length (textOf (ending (bookFrames t)))) limit) (ltb (length (bookFrames t)) 65536) held in
     let gw = all-passed WishFits makesWish (t .wishes) (fit .1) made-wishes in
     let ga = all-passed AlternativeFits makesAlternative (t .alternatives) (fit .2) made-alternatives in

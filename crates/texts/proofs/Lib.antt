@@ -12,3 +12,4 @@ pub mod BookTables
 pub mod BookRows
 pub mod RoundTrip
 pub mod WriteLaws
+pub mod CheckLaws

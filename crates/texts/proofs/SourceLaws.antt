@@ -16,7 +16,8 @@ use Rattle.tables.specs.declared.row.AlternativeRow.{AlternativeRow}
 use Rattle.frames.specs.declared.frame.Frame.{Frame}
 use Rattle.frames.specs.declared.frame.Frame.the-variants.{Rule, RankStep, Wish, Alternative}
 use Rattle.texts.specs.Summary.{bookLeft, startsLast}
-use Rattle.texts.specs.Writing.{alternativeFrame, ofLast, pastLast, wishFrames}
+use Rattle.texts.specs.Rows.{Tables}
+use Rattle.texts.specs.Writing.{alternativeFrame, ofLast, pastLast, wishFrames, bookFrames}
 use Rattle.texts.proofs.BookTurns.{shape, shape-none, step-in, wish-in, alternative-in}
 
 -- what stands past the end of a table
@@ -84,3 +85,11 @@ left-step rules i r n over rows none ws k d h high =
     let at : (q : ℕ) → bookLeft (drop i rules) q n (drop k ws) rows ≡ wishFrames q n (getD ws k d ∷ drop (k + 1) ws) rows =
     λ q. only-wishes rules i q n over rows none (drop k ws) ∙ ap (λ x. wishFrames q n x rows) (drop-more ws k d h) in
     at r ∙ sym (step-in r n (getD ws k d) (drop (k + 1) ws) rows (omega arith)) ∙ ap (λ x. RankStep ∷ x) (sym (at (r + 1)))
+
+-- at the start all frames of the book are left
+none-yet : (rows : List AlternativeRow) → startsLast 0 rows ≡ false
+none-yet [] = refl
+none-yet (a ∷ rows) = ne-eqb (a .wish + 1) 0 (λ e. omega arith)
+
+pub all-left : (t : Tables) → bookLeft (t .rules) 1 0 (t .wishes) (t .alternatives) ≡ bookFrames t
+all-left t = ap (λ x. map Rule (t .rules) ++ x) (shape-none 1 0 (t .wishes) (t .alternatives) (not-last 0 (t .alternatives) (none-yet (t .alternatives))))

@@ -75,6 +75,9 @@ pub record Tables : Type 0 where
   pub wishes : List WishRow
   pub alternatives : List AlternativeRow
 
+abbrev pub tablesFrom : List RuleRow → List WishRow → List AlternativeRow → Tables
+tablesFrom rules wishes alternatives = record { rules = rules; wishes = wishes; alternatives = alternatives }
+
 abbrev pub tablesOf : List Frame → Tables
 tablesOf fs = record { rules = rowsIn ruleIn fs; wishes = rowsIn wishIn fs; alternatives = rowsIn alternativeIn fs }
 

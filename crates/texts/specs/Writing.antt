@@ -82,13 +82,15 @@ holdable fs = leb (length (textOf (ending fs))) limit && ltb (length fs) 65536
 abbrev pub writableCatalogue : List LiteralSet → Bool
 writableCatalogue rows = each makesFit rows && holdable (fitFrames rows)
 
--- Some text gives the tables of a book: each row makes a record, wishes stand in the order of their ranks, alternatives in the
--- order of their wishes, none without its wish.
+-- wishes stand in the order of their ranks, and alternatives in the order of their wishes, none without its wish
+abbrev pub orderly : List WishRow → List AlternativeRow → Bool
+orderly wishes alternatives =
+    rising 0 (map (λ w. w .rank) wishes) && (rising 0 (map (λ a. a .wish) alternatives) && each (λ a. ltb (a .wish) (length wishes)) alternatives)
+
+-- Some text gives the tables of a book.
 abbrev pub writableBook : Tables → Bool
 writableBook t =
-    each makesRule (t .rules) && (each makesWish (t .wishes) && (each makesAlternative (t .alternatives)
-    && (rising 0 (map (λ w. w .rank) (t .wishes)) && (rising 0 (map (λ a. a .wish) (t .alternatives))
-    && (each (λ a. ltb (a .wish) (length (t .wishes))) (t .alternatives) && holdable (bookFrames t))))))
+    each makesRule (t .rules) && (each makesWish (t .wishes) && (each makesAlternative (t .alternatives) && (orderly (t .wishes) (t .alternatives) && holdable (bookFrames t))))
 
 -- What writing a text into `room` bytes gives: the number of bytes, or a refusal.
 abbrev pub writeText : Bool → List ℕ → ℕ → Result ℕ Refusal

@@ -1,12 +1,22 @@
 // Book texts: rules, then wishes with their alternatives, then the end frame.
-ghost use mathlib.Core.Bool.{_||_};
+ghost use mathlib.Core.Bool.{_&&_, _||_};
 ghost use mathlib.Core.Path.{_≡_};
 ghost use lib.Dec.{ltb};
 ghost use lib.ListN.{length};
-ghost use Rattle.texts.specs.Rows.{readBook, bookCount, rowsOf, overwritten};
+ghost use Rattle.texts.specs.Meaning.{SameBookText, SameBookTables, GivenBooks, AcceptedBooks};
+ghost use Rattle.tables.specs.Rows.{makesRule, makesWish, makesAlternative};
+ghost use Rattle.texts.specs.Rows.{readBook, bookCount, rowsOf, overwritten, tablesFrom};
+ghost use Rattle.texts.specs.Writing.{each, orderly, bookText, writableBook, writeText, written};
 use crate::book_size::BookSize;
+use crate::checks::RowOfAlternative;
+use crate::checks::RowOfRule;
+use crate::checks::RowOfWish;
+use crate::checks::all_make_records;
+use crate::checks::are_orderly;
 use crate::fault::Fault;
 use crate::fault::Refusal;
+use crate::frame_source::BookFrames;
+use crate::frame_source::FramesOfBook;
 use crate::judge::accept;
 use crate::rows::AlternativeOfFrame;
 use crate::rows::RuleOfFrame;
@@ -14,6 +24,7 @@ use crate::rows::WishOfFrame;
 use crate::rows::fill;
 use crate::seen::Seen;
 use crate::seen::TextKind;
+use crate::writing::write_text;
 use tables::AlternativeRow;
 use tables::RuleRow;
 use tables::WishRow;
@@ -47,4 +58,44 @@ pub fn read_book(text: &[u8], rules: &mut [RuleRow], wishes: &mut [WishRow], alt
         wishes: seen.wishes,
         alternatives: seen.alternatives,
     })
+}
+
+// Whether each row of a book makes a record, and the rows stand in order.
+fn are_sound(rules: &[RuleRow], wishes: &[WishRow], alternatives: &[AlternativeRow]) -> bool
+    ensures { λ r. ⌜ r ≡ each makesRule (now (rules .entry)) && (each makesWish (now (wishes .entry)) && (each makesAlternative (now (alternatives .entry)) && orderly (now (wishes .entry)) (now (alternatives .entry)))) ⌝ }
+{
+    all_make_records(rules) && all_make_records(wishes) && all_make_records(alternatives) && are_orderly(wishes, alternatives)
+}
+
+// Writes the text of a book at the front of a buffer; how many bytes it has. A refusal leaves the buffer as it was.
+pub fn write_book(rules: &[RuleRow], wishes: &[WishRow], alternatives: &[AlternativeRow], out: &mut [u8]) -> Result<usize, Refusal>
+    ensures result { λ r. ⌜ r ≡ writeText (writableBook (tablesFrom (now (rules .entry)) (now (wishes .entry)) (now (alternatives .entry)))) (bookText (tablesFrom (now (rules .entry)) (now (wishes .entry)) (now (alternatives .entry)))) (length (now (out .entry))) ⌝ }
+    ensures buffer { λ r. ⌜ now (out .exit) ≡ written r (bookText (tablesFrom (now (rules .entry)) (now (wishes .entry)) (now (alternatives .entry)))) (now (out .entry)) ⌝ }
+{
+    if !are_sound(rules, wishes, alternatives) {
+        return Err(Refusal {
+            fault: Fault::NoText,
+            line: 0,
+        });
+    }
+    let frames = BookFrames {
+        rules,
+        wishes,
+        alternatives,
+        rule: 0,
+        rank: 1,
+        wish: 0,
+        alternative: 0,
+    };
+    write_text(frames, out)
+}
+
+// Book texts and tables answer to each other.
+pub fn book_texts_stand() -> u8
+    ensures accepted { λ _. ⌜ AcceptedBooks ⌝ }
+    ensures given { λ _. ⌜ GivenBooks ⌝ }
+    ensures text { λ _. ⌜ SameBookText ⌝ }
+    ensures tables { λ _. ⌜ SameBookTables ⌝ }
+{
+    0
 }

@@ -43,9 +43,9 @@ pub impl FrameSource for CatalogueFrames<'_> as FramesOfCatalogue {
 
 // The tables of a book from a place on: the next rule, then the rank that is reached, the next wish and the next alternative.
 #[derive(Clone, Copy)]
-pub struct BookFrames<'a> {
-    pub rules: &'a [RuleRow],
-    pub wishes: &'a [WishRow],
+pub struct BookFrames<'r, 'w, 'a> {
+    pub rules: &'r [RuleRow],
+    pub wishes: &'w [WishRow],
     pub alternatives: &'a [AlternativeRow],
     pub rule: usize,
     pub rank: u8,
@@ -53,7 +53,7 @@ pub struct BookFrames<'a> {
     pub alternative: usize,
 }
 
-impl BookFrames<'_> {
+impl BookFrames<'_, '_, '_> {
     // Whether the next alternative is one of the last wish.
     fn alternative_follows(&self) -> bool
         ensures { λ r. ⌜ r ≡ startsLast (now (self .entry) .wish) (drop (now (self .entry) .alternative) (now (now (self .entry) .alternatives))) ⌝ }
@@ -66,7 +66,7 @@ impl BookFrames<'_> {
     }
 }
 
-pub impl FrameSource for BookFrames<'_> as FramesOfBook {
+pub impl FrameSource for BookFrames<'_, '_, '_> as FramesOfBook {
     ghost left = { λ s. bookLeft (drop (s .rule) (now (s .rules))) (s .rank) (s .wish) (drop (s .wish) (now (s .wishes))) (drop (s .alternative) (now (s .alternatives))) };
 
     fn next_frame(&mut self) -> Option<Frame> {
