@@ -13,3 +13,4 @@ pub mod BookRows
 pub mod RoundTrip
 pub mod WriteLaws
 pub mod CheckLaws
+pub mod RefusalLaws

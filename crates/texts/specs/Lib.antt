@@ -5,3 +5,4 @@ pub mod Rows
 pub mod Writing
 pub mod Summary
 pub mod Meaning
+pub mod Refusals
