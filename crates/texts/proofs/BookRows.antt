@@ -20,7 +20,8 @@ use Rattle.texts.specs.Places.{isStep, isWish, ofWish, count, last, ended}
 use Rattle.texts.specs.Reading.{limit}
 use Rattle.texts.specs.Rows.{ruleIn, wishIn, alternativeIn, onto, rowsFrom, rowsIn, Tables, tablesOf}
 use Rattle.texts.specs.Writing.{textOf, ending, bookFrames, each, rising, holdable, writableBook}
-use Rattle.texts.specs.Meaning.{AllGood, InTurn, WishFits, AlternativeFits, TablesFit}
+use Rattle.texts.specs.Meaning.{WishFits, AlternativeFits, TablesFit}
+use Rattle.texts.specs.Turns.{AllGood, InTurn}
 use Rattle.texts.proofs.BookTables.{GoodRule, GoodWish, GoodAlternative, ranks, owners}
 use Rattle.texts.proofs.BookTurns.{placed, book-frames}
 use Rattle.texts.proofs.SummaryLaws.{one-more, last-more}

@@ -21,7 +21,8 @@ use Rattle.texts.specs.Places.{isRule, isStep, isEnd, ofWish, every, count, la
 use Rattle.texts.specs.Reading.{limit}
 use Rattle.texts.specs.Rows.{ruleIn, wishIn, alternativeIn, rowsFrom, Tables, tablesOf}
 use Rattle.texts.specs.Writing.{textOf, ending, steps, alternativeFrame, ofLast, pastLast, wishFrames, bookFrames, each, rising, holdable, orderly, writableBook}
-use Rattle.texts.specs.Meaning.{AllGood, InTurn, WishFits, AlternativeFits, TablesFit}
+use Rattle.texts.specs.Meaning.{WishFits, AlternativeFits, TablesFit}
+use Rattle.texts.specs.Turns.{AllGood, InTurn}
 use Rattle.texts.proofs.BookTurns.{every-more}
 use Rattle.texts.proofs.SummaryLaws.{one-more, some-more, last-more}
 use Rattle.texts.proofs.TextFrames.{admits, all-passed}

@@ -24,7 +24,7 @@ use Rattle.texts.specs.Places.{isRule, isStep, isWish, isEnd, ofWish, every, s
 use Rattle.texts.specs.Reading.{counts, admitted}
 use Rattle.texts.specs.Rows.{ruleIn, wishIn, alternativeIn, onto, rowsFrom, rowsIn, Tables, tablesOf}
 use Rattle.texts.specs.Writing.{steps, alternativeFrame, ofLast, pastLast, wishFrames, bookFrames, ending}
-use Rattle.texts.specs.Meaning.{InTurn}
+use Rattle.texts.specs.Turns.{InTurn}
 use Rattle.texts.proofs.LineLaws.{ok-err}
 use Rattle.texts.proofs.SummaryLaws.{some-more, last-more}
 

@@ -18,7 +18,7 @@ use Rattle.texts.specs.Places.{isEnd, ended}
 use Rattle.texts.specs.Reading.{limit}
 use Rattle.texts.specs.Rows.{fitIn, rowsFrom, rowsIn}
 use Rattle.texts.specs.Writing.{textOf, ending, fitFrames, each, holdable, writableCatalogue}
-use Rattle.texts.specs.Meaning.{AllGood, InTurn}
+use Rattle.texts.specs.Turns.{AllGood, InTurn}
 use Rattle.texts.proofs.BookTurns.{placed}
 use Rattle.texts.proofs.SummaryLaws.{some-more}
 use Rattle.texts.proofs.TextFrames.{admits, end-ended, good-last, all-passed, passed-all}

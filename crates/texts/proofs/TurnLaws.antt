@@ -23,7 +23,7 @@ use Rattle.texts.specs.Lines.{lines}
 use Rattle.texts.specs.Places.{ended}
 use Rattle.texts.specs.Reading.{refused, admitted, readFrom}
 use Rattle.texts.specs.Writing.{textOf}
-use Rattle.texts.specs.Meaning.{AllGood, InTurn}
+use Rattle.texts.specs.Turns.{AllGood, InTurn}
 use Rattle.texts.proofs.LineLaws.{ok-err, ok-same, err-same, read-more, read-misplaced, read-fault, read-end, read-shorter}
 
 -- a line that shows a fault behind these frames

@@ -4,5 +4,6 @@ pub mod Reading
 pub mod Rows
 pub mod Writing
 pub mod Summary
-pub mod Meaning
+pub mod Turns
 pub mod Refusals
+pub mod Meaning

@@ -14,7 +14,7 @@ use Rattle.texts.specs.declared.seen.TextKind.{TextKind}
 use Rattle.texts.specs.Places.{inPlace, ended}
 use Rattle.texts.specs.Reading.{limit, numberOf, refused, counts, framesIn}
 use Rattle.texts.specs.Writing.{textOf}
-use Rattle.texts.specs.Meaning.{AllGood, InTurn}
+use Rattle.texts.specs.Turns.{AllGood, InTurn}
 
 -- what is left of a text behind these frames shows a fault of the number
 pub data Shows (kind : TextKind) (before : List Frame) (rest : List ℕ) : ℕ → Type 0 where

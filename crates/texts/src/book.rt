@@ -3,7 +3,7 @@ ghost use mathlib.Core.Bool.{_&&_, _||_};
 ghost use mathlib.Core.Path.{_≡_};
 ghost use lib.Dec.{ltb};
 ghost use lib.ListN.{length};
-ghost use Rattle.texts.specs.Meaning.{SameBookText, SameBookTables, GivenBooks, AcceptedBooks};
+ghost use Rattle.texts.specs.Meaning.{BookReading, BookWriting};
 ghost use Rattle.tables.specs.Rows.{makesRule, makesWish, makesAlternative};
 ghost use Rattle.texts.specs.Rows.{readBook, bookCount, rowsOf, overwritten, tablesFrom};
 ghost use Rattle.texts.specs.Writing.{each, orderly, bookText, writableBook, writeText, written};
@@ -39,6 +39,7 @@ fn is_short(seen: Seen, rules: usize, wishes: usize, alternatives: usize) -> boo
 // Reads a book text into the fronts of three tables; how many rows each has got. A refusal leaves the tables as they were.
 pub fn read_book(text: &[u8], rules: &mut [RuleRow], wishes: &mut [WishRow], alternatives: &mut [AlternativeRow]) -> Result<BookSize, Refusal>
     ensures result { λ r. ⌜ r ≡ bookCount (readBook (now (text .entry)) (length (now (rules .entry))) (length (now (wishes .entry))) (length (now (alternatives .entry)))) ⌝ }
+    ensures meaning { λ _. ⌜ BookReading (now (text .entry)) ⌝ }
     ensures rules { λ _. ⌜ now (rules .exit) ≡ overwritten (rowsOf (λ t. t .rules) (readBook (now (text .entry)) (length (now (rules .entry))) (length (now (wishes .entry))) (length (now (alternatives .entry))))) (now (rules .entry)) ⌝ }
     ensures wishes { λ _. ⌜ now (wishes .exit) ≡ overwritten (rowsOf (λ t. t .wishes) (readBook (now (text .entry)) (length (now (rules .entry))) (length (now (wishes .entry))) (length (now (alternatives .entry))))) (now (wishes .entry)) ⌝ }
     ensures alternatives { λ _. ⌜ now (alternatives .exit) ≡ overwritten (rowsOf (λ t. t .alternatives) (readBook (now (text .entry)) (length (now (rules .entry))) (length (now (wishes .entry))) (length (now (alternatives .entry))))) (now (alternatives .entry)) ⌝ }
@@ -70,6 +71,7 @@ fn are_sound(rules: &[RuleRow], wishes: &[WishRow], alternatives: &[AlternativeR
 // Writes the text of a book at the front of a buffer; how many bytes it has. A refusal leaves the buffer as it was.
 pub fn write_book(rules: &[RuleRow], wishes: &[WishRow], alternatives: &[AlternativeRow], out: &mut [u8]) -> Result<usize, Refusal>
     ensures result { λ r. ⌜ r ≡ writeText (writableBook (tablesFrom (now (rules .entry)) (now (wishes .entry)) (now (alternatives .entry)))) (bookText (tablesFrom (now (rules .entry)) (now (wishes .entry)) (now (alternatives .entry)))) (length (now (out .entry))) ⌝ }
+    ensures meaning { λ _. ⌜ BookWriting (tablesFrom (now (rules .entry)) (now (wishes .entry)) (now (alternatives .entry))) ⌝ }
     ensures buffer { λ r. ⌜ now (out .exit) ≡ written r (bookText (tablesFrom (now (rules .entry)) (now (wishes .entry)) (now (alternatives .entry)))) (now (out .entry)) ⌝ }
 {
     if !are_sound(rules, wishes, alternatives) {
@@ -88,14 +90,4 @@ pub fn write_book(rules: &[RuleRow], wishes: &[WishRow], alternatives: &[Alterna
         alternative: 0,
     };
     write_text(frames, out)
-}
-
-// Book texts and tables answer to each other.
-pub fn book_texts_stand() -> u8
-    ensures accepted { λ _. ⌜ AcceptedBooks ⌝ }
-    ensures given { λ _. ⌜ GivenBooks ⌝ }
-    ensures text { λ _. ⌜ SameBookText ⌝ }
-    ensures tables { λ _. ⌜ SameBookTables ⌝ }
-{
-    0
 }

@@ -1,7 +1,7 @@
 // Catalogue texts: fits, then the end frame.
 ghost use mathlib.Core.Path.{_≡_};
 ghost use lib.ListN.{length};
-ghost use Rattle.texts.specs.Meaning.{SameCatalogueText, SameCatalogueRows, GivenCatalogues, AcceptedCatalogues};
+ghost use Rattle.texts.specs.Meaning.{CatalogueReading, CatalogueWriting};
 ghost use Rattle.texts.specs.Rows.{readCatalogue, rowCount, rowsOf, overwritten};
 ghost use Rattle.texts.specs.Writing.{catalogueText, writableCatalogue, writeText, written};
 use crate::checks::RowOfFit;
@@ -20,6 +20,7 @@ use literals::LiteralSet;
 // Reads a catalogue text into the front of a table; how many fits it has. A refusal leaves the table as it was.
 pub fn read_catalogue(text: &[u8], table: &mut [LiteralSet]) -> Result<usize, Refusal>
     ensures result { λ r. ⌜ r ≡ rowCount (readCatalogue (now (text .entry)) (length (now (table .entry)))) ⌝ }
+    ensures meaning { λ _. ⌜ CatalogueReading (now (text .entry)) ⌝ }
     ensures table { λ _. ⌜ now (table .exit) ≡ overwritten (rowsOf (λ rows. rows) (readCatalogue (now (text .entry)) (length (now (table .entry))))) (now (table .entry)) ⌝ }
 {
     let seen = accept(TextKind::Catalogue, text)?;
@@ -36,6 +37,7 @@ pub fn read_catalogue(text: &[u8], table: &mut [LiteralSet]) -> Result<usize, Re
 // Writes the text of a catalogue at the front of a buffer; how many bytes it has. A refusal leaves the buffer as it was.
 pub fn write_catalogue(rows: &[LiteralSet], out: &mut [u8]) -> Result<usize, Refusal>
     ensures result { λ r. ⌜ r ≡ writeText (writableCatalogue (now (rows .entry))) (catalogueText (now (rows .entry))) (length (now (out .entry))) ⌝ }
+    ensures meaning { λ _. ⌜ CatalogueWriting (now (rows .entry)) ⌝ }
     ensures buffer { λ r. ⌜ now (out .exit) ≡ written r (catalogueText (now (rows .entry))) (now (out .entry)) ⌝ }
 {
     if !all_make_records(rows) {
@@ -45,14 +47,4 @@ pub fn write_catalogue(rows: &[LiteralSet], out: &mut [u8]) -> Result<usize, Ref
         });
     }
     write_text(CatalogueFrames { rows, at: 0 }, out)
-}
-
-// Catalogue texts and catalogues answer to each other.
-pub fn catalogue_texts_stand() -> u8
-    ensures accepted { λ _. ⌜ AcceptedCatalogues ⌝ }
-    ensures given { λ _. ⌜ GivenCatalogues ⌝ }
-    ensures text { λ _. ⌜ SameCatalogueText ⌝ }
-    ensures rows { λ _. ⌜ SameCatalogueRows ⌝ }
-{
-    0
 }

@@ -10,13 +10,11 @@ mod rows;
 mod seen;
 mod writing;
 
-pub use book::book_texts_stand;
 pub use book::read_book;
 pub use book::write_book;
 pub use book_size::BookSize;
 pub use book_size::BookSizeDebug;
 pub use book_size::BookSizePartialEq;
-pub use catalogue::catalogue_texts_stand;
 pub use catalogue::read_catalogue;
 pub use catalogue::write_catalogue;
 pub use fault::Fault;

@@ -1,4 +1,4 @@
-use mathlib.Core.Bool.{true, false}
+use borrow.Author.Needs.{needs}
 use mathlib.Core.List.{List}
 use mathlib.Core.Path.{_≡_, sym, ap, _∙_}
 use lib.ListN.{length}
@@ -8,6 +8,7 @@ use Rattle.texts.specs.declared.book_size.BookSize.{BookSize}
 use Rattle.texts.specs.declared.fault.Refusal.{Refusal}
 use Rattle.texts.specs.Rows.{Tables, tablesOf, sizeOf, bookCount, rowsOf, overwritten}
 use Rattle.texts.proofs.ReadLaws.{book-sizes, book-short, book-read, book-room}
+use Rattle.texts.proofs.RoundTrip.{book-reading}
 use Rattle.texts.proofs.book.read_book.Needs as need
 
 -- a table after reading, by what was read
@@ -20,6 +21,7 @@ returns-then-is-short c =
     let short = book-short (c .args .text .now) (length (c .args .rules .now)) (length (c .args .wishes .now)) (length (c .args .alternatives .now)) fs (c .in-Continue-seen .seen) known ok (sym (c .is-short .ensures) ∙ c .if-is-short .taken) in
     record {
       result = sym (ap bookCount short);
+      meaning = book-reading (c .args .text .now);
       rules = after (λ t. t .rules) (c .args .rules .now) short;
       wishes = after (λ t. t .wishes) (c .args .wishes .now) short;
       alternatives = after (λ t. t .alternatives) (c .args .alternatives .now) short;
@@ -54,7 +56,11 @@ returns c =
     λ i. record { rules = sym (sizes .0) i; wishes = sym (sizes .1) i; alternatives = sym (sizes .2) i } in
     record {
       result = ap Ok size ∙ sym (ap bookCount read);
+      meaning = book-reading (c .args .text .now);
       rules = c .fill .ensures fs ok ∙ after (λ t. t .rules) (c .args .rules .now) read;
       wishes = c .fill-2 .ensures fs ok ∙ after (λ t. t .wishes) (c .args .wishes .now) read;
       alternatives = c .fill-3 .ensures fs ok ∙ after (λ t. t .alternatives) (c .args .alternatives .now) read;
     }
+
+pub returns-in-Break-seen : need.returns-in-Break-seen
+returns-in-Break-seen c = record { result = search needs; meaning = book-reading (c .args .text .now); rules = search needs; wishes = search needs; alternatives = search needs }
