@@ -1,0 +1,87 @@
+// From the bytes of a book text to the bytes of the answer: what the program does, on values.
+ghost use mathlib.Core.Path.{_≡_};
+ghost use Prim.Native.Nat.{_≤_};
+ghost use lib.ListN.{length, take};
+ghost use Rattle.std.specs.Of.Vec.{vec-items};
+ghost use Rattle.std.specs.Vec.{made};
+ghost use Rattle.frames.specs.AnswerLines.{refusalLine};
+ghost use Rattle.texts.specs.Reading.{numberOf};
+ghost use Rattle.answer.specs.Answers.{longest, answered};
+use frames::write_refusal;
+use std::alloc::AllocError;
+use std::alloc::Global;
+use tables::AlternativeRow;
+use tables::RuleRow;
+use tables::WishRow;
+use texts::Fault;
+use texts::Refusal;
+use texts::read_book;
+use texts::write_book;
+
+// The longest input, in bytes.
+pub const LONGEST: usize = 65_536;
+
+// The lengths of the tables.
+const RULES: usize = 512;
+const WISHES: usize = 64;
+const ALTERNATIVES: usize = 512;
+
+// Writes the line of a refusal at the front of a buffer; its length.
+fn refuse(refusal: Refusal, out: &mut [u8]) -> usize
+    requires { ⌜ longest ≤ length (now out) ⌝ }
+    ensures { λ r. ⌜ take r (now (out .exit)) ≡ refusalLine (numberOf (refusal .fault)) (refusal .line) ⌝ }
+{
+    match write_refusal(refusal.number(), refusal.line, out) {
+        Ok(count) => count,
+        Err(_) => 0,
+    }
+}
+
+// Writes the answer at the front of a buffer, by means of these tables; its length.
+fn answer_into(input: &[u8], rules: &mut [RuleRow], wishes: &mut [WishRow], alternatives: &mut [AlternativeRow], out: &mut [u8]) -> usize
+    requires rules { ⌜ length (now rules) ≡ 512 ⌝ }
+    requires wishes { ⌜ length (now wishes) ≡ 64 ⌝ }
+    requires alternatives { ⌜ length (now alternatives) ≡ 512 ⌝ }
+    requires room { ⌜ longest ≤ length (now out) ⌝ }
+    ensures { λ r. ⌜ take r (now (out .exit)) ≡ answered (now (input .entry)) ⌝ }
+{
+    if input.len() > LONGEST {
+        return refuse(
+            Refusal {
+                fault: Fault::TooLong,
+                line: 0,
+            },
+            out,
+        );
+    }
+    let size = match read_book(input, rules, wishes, alternatives) {
+        Ok(size) => size,
+        Err(refusal) => return refuse(refusal, out),
+    };
+    let rule_count = size.rules;
+    let wish_count = size.wishes;
+    let alternative_count = size.alternatives;
+    match write_book(&rules[0..rule_count], &wishes[0..wish_count], &alternatives[0..alternative_count], out) {
+        Ok(count) => count,
+        Err(_) => 0,
+    }
+}
+
+// The answer to an input; an error is want of memory.
+pub fn answer(heap: Global, input: &[u8]) -> Result<Vec<u8>, AllocError>
+    ensures { λ r. ⌜ made r (λ v. vec-items v ≡ answered (now (input .entry))) ⌝ }
+{
+    let mut rules = vec![in heap; RuleRow::FILLER; RULES]?;
+    let mut wishes = vec![in heap; WishRow::FILLER; WISHES]?;
+    let mut alternatives = vec![in heap; AlternativeRow::FILLER; ALTERNATIVES]?;
+    let mut out = vec![in heap; 0u8; LONGEST]?;
+    let count = answer_into(
+        input,
+        rules.as_mut_slice(),
+        wishes.as_mut_slice(),
+        alternatives.as_mut_slice(),
+        out.as_mut_slice(),
+    );
+    out.truncate(count);
+    Ok(out)
+}
