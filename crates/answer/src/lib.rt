@@ -1,4 +1,5 @@
 // From the bytes of a book text to the bytes of the answer: what the program does, on values.
+ghost use mathlib.Core.Bool.{true};
 ghost use mathlib.Core.Path.{_≡_};
 ghost use Prim.Native.Nat.{_≤_};
 ghost use lib.ListN.{length, take};
@@ -6,13 +7,15 @@ ghost use Rattle.std.specs.Of.Vec.{vec-items};
 ghost use Rattle.std.specs.Vec.{made};
 ghost use Rattle.frames.specs.AnswerLines.{refusalLine};
 ghost use Rattle.texts.specs.Reading.{numberOf};
-ghost use Rattle.answer.specs.Answers.{longest, answered};
+ghost use Rattle.texts.specs.Writing.{writableBook, bookText};
+ghost use Rattle.answer.specs.Answers.{longest, answered, fronts};
 use frames::write_refusal;
 use std::alloc::AllocError;
 use std::alloc::Global;
 use tables::AlternativeRow;
 use tables::RuleRow;
 use tables::WishRow;
+use texts::BookSize;
 use texts::Fault;
 use texts::Refusal;
 use texts::read_book;
@@ -32,6 +35,24 @@ fn refuse(refusal: Refusal, out: &mut [u8]) -> usize
     ensures { λ r. ⌜ take r (now (out .exit)) ≡ refusalLine (numberOf (refusal .fault)) (refusal .line) ⌝ }
 {
     match write_refusal(refusal.number(), refusal.line, out) {
+        Ok(count) => count,
+        Err(_) => 0,
+    }
+}
+
+// Writes the text of the first rows of tables at the front of a buffer; its length.
+fn write_fronts(rules: &[RuleRow], wishes: &[WishRow], alternatives: &[AlternativeRow], size: BookSize, out: &mut [u8]) -> usize
+    requires rules { ⌜ size .rules ≤ length (now rules) ⌝ }
+    requires wishes { ⌜ size .wishes ≤ length (now wishes) ⌝ }
+    requires alternatives { ⌜ size .alternatives ≤ length (now alternatives) ⌝ }
+    requires writable { ⌜ writableBook (fronts size (now rules) (now wishes) (now alternatives)) ≡ true ⌝ }
+    requires room { ⌜ length (bookText (fronts size (now rules) (now wishes) (now alternatives))) ≤ length (now out) ⌝ }
+    ensures { λ r. ⌜ take r (now (out .exit)) ≡ bookText (fronts size (now (rules .entry)) (now (wishes .entry)) (now (alternatives .entry))) ⌝ }
+{
+    let rule_count = size.rules;
+    let wish_count = size.wishes;
+    let alternative_count = size.alternatives;
+    match write_book(&rules[0..rule_count], &wishes[0..wish_count], &alternatives[0..alternative_count], out) {
         Ok(count) => count,
         Err(_) => 0,
     }
@@ -58,13 +79,7 @@ fn answer_into(input: &[u8], rules: &mut [RuleRow], wishes: &mut [WishRow], alte
         Ok(size) => size,
         Err(refusal) => return refuse(refusal, out),
     };
-    let rule_count = size.rules;
-    let wish_count = size.wishes;
-    let alternative_count = size.alternatives;
-    match write_book(&rules[0..rule_count], &wishes[0..wish_count], &alternatives[0..alternative_count], out) {
-        Ok(count) => count,
-        Err(_) => 0,
-    }
+    write_fronts(rules, wishes, alternatives, size, out)
 }
 
 // The answer to an input; an error is want of memory.
