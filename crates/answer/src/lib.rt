@@ -32,7 +32,8 @@ const ALTERNATIVES: usize = 512;
 // Writes the line of a refusal at the front of a buffer; its length.
 fn refuse(refusal: Refusal, out: &mut [u8]) -> usize
     requires { ⌜ longest ≤ length (now out) ⌝ }
-    ensures { λ r. ⌜ take r (now (out .exit)) ≡ refusalLine (numberOf (refusal .fault)) (refusal .line) ⌝ }
+    ensures within { λ r. ⌜ r ≤ length (now (out .entry)) ⌝ }
+    ensures bytes { λ r. ⌜ take r (now (out .exit)) ≡ refusalLine (numberOf (refusal .fault)) (refusal .line) ⌝ }
 {
     match write_refusal(refusal.number(), refusal.line, out) {
         Ok(count) => count,
@@ -47,7 +48,8 @@ fn write_fronts(rules: &[RuleRow], wishes: &[WishRow], alternatives: &[Alternati
     requires alternatives { ⌜ size .alternatives ≤ length (now alternatives) ⌝ }
     requires writable { ⌜ writableBook (fronts size (now rules) (now wishes) (now alternatives)) ≡ true ⌝ }
     requires room { ⌜ length (bookText (fronts size (now rules) (now wishes) (now alternatives))) ≤ length (now out) ⌝ }
-    ensures { λ r. ⌜ take r (now (out .exit)) ≡ bookText (fronts size (now (rules .entry)) (now (wishes .entry)) (now (alternatives .entry))) ⌝ }
+    ensures within { λ r. ⌜ r ≤ length (now (out .entry)) ⌝ }
+    ensures bytes { λ r. ⌜ take r (now (out .exit)) ≡ bookText (fronts size (now (rules .entry)) (now (wishes .entry)) (now (alternatives .entry))) ⌝ }
 {
     let rule_count = size.rules;
     let wish_count = size.wishes;
@@ -64,7 +66,8 @@ fn answer_into(input: &[u8], rules: &mut [RuleRow], wishes: &mut [WishRow], alte
     requires wishes { ⌜ length (now wishes) ≡ 64 ⌝ }
     requires alternatives { ⌜ length (now alternatives) ≡ 512 ⌝ }
     requires room { ⌜ longest ≤ length (now out) ⌝ }
-    ensures { λ r. ⌜ take r (now (out .exit)) ≡ answered (now (input .entry)) ⌝ }
+    ensures within { λ r. ⌜ r ≤ length (now (out .entry)) ⌝ }
+    ensures bytes { λ r. ⌜ take r (now (out .exit)) ≡ answered (now (input .entry)) ⌝ }
 {
     if input.len() > LONGEST {
         return refuse(
@@ -82,6 +85,20 @@ fn answer_into(input: &[u8], rules: &mut [RuleRow], wishes: &mut [WishRow], alte
     write_fronts(rules, wishes, alternatives, size, out)
 }
 
+// The answer, worked out in these tables and this buffer.
+fn answer_in(heap: Global, input: &[u8], rules: &mut [RuleRow], wishes: &mut [WishRow], alternatives: &mut [AlternativeRow], out: &mut [u8]) -> Result<Vec<u8>, AllocError>
+    requires rules { ⌜ length (now rules) ≡ 512 ⌝ }
+    requires wishes { ⌜ length (now wishes) ≡ 64 ⌝ }
+    requires alternatives { ⌜ length (now alternatives) ≡ 512 ⌝ }
+    requires room { ⌜ longest ≤ length (now out) ⌝ }
+    ensures { λ r. ⌜ made r (λ v. vec-items v ≡ answered (now (input .entry))) ⌝ }
+{
+    let count = answer_into(input, rules, wishes, alternatives, out);
+    let mut bytes = Vec::new(heap);
+    bytes.extend_from_slice(&out[0..count])?;
+    Ok(bytes)
+}
+
 // The answer to an input; an error is want of memory.
 pub fn answer(heap: Global, input: &[u8]) -> Result<Vec<u8>, AllocError>
     ensures { λ r. ⌜ made r (λ v. vec-items v ≡ answered (now (input .entry))) ⌝ }
@@ -90,13 +107,12 @@ pub fn answer(heap: Global, input: &[u8]) -> Result<Vec<u8>, AllocError>
     let mut wishes = vec![in heap; WishRow::FILLER; WISHES]?;
     let mut alternatives = vec![in heap; AlternativeRow::FILLER; ALTERNATIVES]?;
     let mut out = vec![in heap; 0u8; LONGEST]?;
-    let count = answer_into(
+    answer_in(
+        heap,
         input,
         rules.as_mut_slice(),
         wishes.as_mut_slice(),
         alternatives.as_mut_slice(),
         out.as_mut_slice(),
-    );
-    out.truncate(count);
-    Ok(out)
+    )
 }
