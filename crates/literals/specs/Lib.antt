@@ -2,8 +2,4 @@ pub mod Words
 pub mod Sets
 pub mod Settling
 pub mod Conditions
-pub mod Sound
-pub mod Fits
-pub mod Picking
-pub mod Between
 pub mod Faults

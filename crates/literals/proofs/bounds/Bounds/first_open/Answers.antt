@@ -1,5 +1,0 @@
-use Rattle.literals.proofs.Spans.{first-open}
-use Rattle.literals.proofs.bounds.Bounds.first_open.Needs as need
-
-pub returns : need.returns
-returns c = first-open (c .args .self) _ _ (c .open .ensures) (c .highest .ensures)

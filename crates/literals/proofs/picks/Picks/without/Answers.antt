@@ -1,7 +1,0 @@
-use Rattle.literals.proofs.Sides.{sound-fewer}
-use Rattle.literals.proofs.picks.Picks.without.Needs as need
-
-pub ghost-result : need.ghost-result
-ghost-result c =
-    let p = c .args .self in
-    (sound-fewer (p .required) _ (p .excluded) _ (p .sound) (c .without .ensures .left) (c .without-2 .ensures .left), tt)

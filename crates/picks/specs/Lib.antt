@@ -1,0 +1,4 @@
+pub mod Sound
+pub mod Fits
+pub mod Picking
+pub mod Between
