@@ -1,19 +1,19 @@
 -- Laws of sets of literals, from those of words.
-use mathlib.Core.Path.{_≡_, refl, sym, ap, subst, _∙_}
-use mathlib.Core.Logic.{_⊎_, inl, inr, ⊎-elim}
-use Prim.Native.Nat.{ℕ, zero, suc, _+_, _-_, _*_, _/_, _%_, _^_, _≤_, _<_}
+use mathlib.Core.Path.{_≡_, sym, ap, subst}
+use mathlib.Core.Logic.{_⊎_, ⊎-elim}
+use Prim.Native.Nat.{ℕ, _-_, _*_, _/_, _%_, _^_, _≤_, _<_}
 use native.Mathlib.Omega.{arith}
 use lib.Bits.{bitAnd, bitOr, bitXor}
-use lib.Count.{ones, ones-le}
+use lib.Count.{ones-le}
 use native.Mathlib.Nat.{lt-of-not-le}
 use lib.Dec.{eqb}
 use mathlib.Core.Bool.{true, false}
 use Rattle.std.proofs.shelf.Bits.{one-shl}
 use Rattle.std.proofs.shelf.Tests.{eq-eqb, ne-eqb}
 use Rattle.literals.specs.Words.{Has, _⊆_, Apart}
-use Rattle.literals.specs.Sets.{Lit, atom, negated, In, _⊑_, Disjoint, Consistent, common, size, Before, Single, named, Union, Shared, Difference, Differing}
+use Rattle.literals.specs.Sets.{Lit, atom, negated, In, _⊑_, Disjoint, common, size, Single, named, Union, Shared, Difference, Differing}
 use Rattle.literals.specs.declared.literal_set.LiteralSet.{LiteralSet}
-use Rattle.literals.proofs.Bitsets.{has-or-not, none-has, has-pow, pow-has, has-and, and-has, has-or-l, has-or-r, or-has, has-not, not-has, has-below, xor-has, has-xor-l, has-xor-r, same-bits, sub-le, ones-sub, ones-same, and-sub, sub-and, and-apart, apart-and}
+use Rattle.literals.proofs.Bitsets.{has-or-not, none-has, has-pow, pow-has, has-and, and-has, has-or-l, has-or-r, or-has, has-not, not-has, has-below, xor-has, has-xor-l, has-xor-r, same-bits, ones-sub, ones-same}
 
 -- ---- from words to sets and back
 

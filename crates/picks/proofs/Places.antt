@@ -6,7 +6,7 @@ use native.Mathlib.Omega.{arith}
 use denote.Struct.Props.{props}
 use Rattle.std.proofs.shelf.Tests.{cases-order}
 use Prim.Native.Nat.{_<_}
-use Rattle.picks.specs.declared.fit.Fit.{Fit, sound-type}
+use Rattle.picks.specs.declared.fit.Fit.{sound-type}
 use Rattle.literals.specs.Sets.{Before}
 use Rattle.picks.specs.Fits.{place, KnownByLiterals, KnownByPlace, PlacesInOrder}
 

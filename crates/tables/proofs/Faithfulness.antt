@@ -1,6 +1,6 @@
 -- Why a record determines its row and is determined by it.
 use Prim.Native.Nat.{ℕ, _≤_, _<_}
-use mathlib.Core.Bool.{Bool, true, false, _&&_}
+use mathlib.Core.Bool.{Bool, true, false}
 use mathlib.Core.HLevel.{×-prop, ×₃-prop}
 use mathlib.Core.Path.{_≡_, refl, sym, ap, pathJ′, _∙_}
 use native.Mathlib.Bridge.{le-prop}
@@ -10,12 +10,11 @@ use Rattle.std.proofs.shelf.Tests.{le-leb, and-from}
 use Rattle.std.specs.declared.option.Option.{Option}
 use Rattle.std.specs.declared.option.Option.the-variants.{Some, None}
 use Rattle.std.specs.declared.result.Result.{Result}
-use Rattle.std.specs.declared.result.Result.the-variants.{Ok, Err}
+use Rattle.std.specs.declared.result.Result.the-variants.{Ok}
 use Rattle.literals.specs.Sets.{size}
 use Rattle.literals.specs.declared.condition.Condition.{Condition}
 use Rattle.literals.specs.declared.literal.Literal.{Literal}
 use Rattle.literals.specs.declared.record_fault.RecordFault.{RecordFault}
-use Rattle.literals.specs.declared.record_fault.RecordFault.the-variants.{OutOfRange}
 use Rattle.tables.specs.Rows.{within, makesRule, makesWish, makesAlternative, makesPenalty}
 use Rattle.tables.specs.Making.{tested, headRow, ruleRow, ruleFrom, ruleOf, wishRow, wishFrom, wishOf, alternativeRow, alternativeFrom, alternativeOf, penaltyRow, penaltyFrom, penaltyOf}
 use Rattle.tables.specs.Tables.{orRefused, Faithful}

@@ -1,11 +1,9 @@
 -- Which rows of plain numbers make a record.
-use Prim.Native.Nat.{ℕ, _<_, _^_}
+use Prim.Native.Nat.{ℕ}
 use mathlib.Core.Bool.{Bool, true, _&&_}
-use mathlib.Core.Path.{_≡_}
 use lib.Bits.{bitAnd}
 use lib.Dec.{leb, eqb}
 use Rattle.literals.specs.Sets.{size}
-use Rattle.literals.specs.declared.condition.Condition.{Condition}
 use Rattle.literals.specs.declared.literal_set.LiteralSet.{LiteralSet}
 use Rattle.tables.specs.declared.row.RuleRow.{RuleRow}
 use Rattle.tables.specs.declared.row.RuleRow.the-variants.{Plain, Constraint, Choice}

@@ -16,7 +16,7 @@ abbrev pub onto : {R : Type 0} → Option R → List R → List R
 onto None made = made
 onto (Some x) made = x ∷ made
 
--- the records of a table, in its order: rows that make none are left out
+-- the records of a table, in its order: rows that make none are left out (not for wishes, which keep their places)
 abbrev pub records : {Row R : Type 0} → (Row → Option R) → List Row → List R
 records of [] = []
 records of (row ∷ rows) = onto (of row) (records of rows)

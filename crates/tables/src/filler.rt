@@ -1,6 +1,8 @@
-// Fillers: rows that make no record, for the unused part of a table, which then counts for nothing.
+// Fillers: rows that make no record, for the unused part of a table. A filler counts for nothing; only that a wish row keeps
+// its place, so that a filler among wishes is still a wish that never matters: hand on just the wishes that were read.
 ghost use mathlib.Core.Bool.{false};
 ghost use mathlib.Core.Path.{_≡_};
+ghost use Rattle.std.specs.declared.option.Option.the-variants.{None};
 ghost use Rattle.tables.specs.Rows.{makesFit};
 ghost use Rattle.tables.specs.Making.{ruleOf, wishOf, alternativeOf, penaltyOf};
 ghost use Rattle.tables.specs.Tables.{Idle};
@@ -48,10 +50,10 @@ impl PenaltyRow {
     };
 }
 
-// That fillers count for nothing.
+// That fillers make no record, and behind the other rows of a table change nothing.
 pub fn fillers_are_idle()
     ensures rules { λ _. do ⌜ Idle ruleOf (← ⟦RuleRow::FILLER⟧ .exit) ⌝ }
-    ensures wishes { λ _. do ⌜ Idle wishOf (← ⟦WishRow::FILLER⟧ .exit) ⌝ }
+    ensures wishes { λ _. do ⌜ wishOf (← ⟦WishRow::FILLER⟧ .exit) ≡ None ⌝ }
     ensures alternatives { λ _. do ⌜ Idle alternativeOf (← ⟦AlternativeRow::FILLER⟧ .exit) ⌝ }
     ensures penalties { λ _. do ⌜ Idle penaltyOf (← ⟦PenaltyRow::FILLER⟧ .exit) ⌝ }
     ensures fits { λ _. do ⌜ makesFit (← ⟦FIT_FILLER⟧ .exit) ≡ false ⌝ }

@@ -1,4 +1,5 @@
-// Rows of tables: plain numbers, of any value that their types hold. A row that makes no record counts for nothing.
+// Rows of tables: plain numbers, of any value that their types hold. A row that makes no record counts for nothing; among
+// wishes it keeps its place, since alternatives name wishes by their place.
 // A row of a table of fits is a `LiteralSet`: it makes a fit where it is consistent.
 ghost use mathlib.Core.Path.{_≡_};
 ghost use Rattle.tables.specs.Rows.{makesRule, makesWish, makesAlternative, makesPenalty};

@@ -1,17 +1,15 @@
 -- Frames in turn in a book are the frames of the tables that they give.
-use Prim.Native.Nat.{ℕ, zero, suc, _+_, _-_, _<_, _≤_}
+use Prim.Native.Nat.{ℕ, suc, _+_, _-_, _<_, _≤_}
 use native.Mathlib.Omega.{arith}
 use mathlib.Core.Path.{_≡_, refl, sym, ap, subst, _∙_}
 use mathlib.Core.Bool.{Bool, true, false, cond, not, _&&_, _||_}
 use mathlib.Core.List.{List, [], _∷_, _++_, map}
-use lib.Dec.{eqb, ltb}
 use lib.ListN.{length}
 use Rattle.std.proofs.shelf.Lists.{append-assoc, append-nil, length-append}
 use Rattle.std.proofs.shelf.Tests.{and-parts, eq-eqb, ne-eqb, eqb-true, cond-true, cond-false, false≢true}
 use Rattle.std.specs.declared.result.Result.{Result}
 use Rattle.std.specs.declared.result.Result.the-variants.{Ok, Err}
 use Rattle.literals.specs.declared.condition.Condition.{Condition}
-use Rattle.tables.specs.declared.row.RuleRow.{RuleRow}
 use Rattle.tables.specs.declared.row.WishRow.{WishRow}
 use Rattle.tables.specs.declared.row.AlternativeRow.{AlternativeRow}
 use Rattle.frames.specs.declared.frame.Frame.{Frame}
@@ -19,13 +17,13 @@ use Rattle.frames.specs.declared.frame.Frame.the-variants.{Rule, RankStep, Wish
 use Rattle.texts.specs.declared.fault.Fault.{Fault}
 use Rattle.texts.specs.declared.fault.Fault.the-variants.{Place, Count}
 use Rattle.texts.specs.declared.seen.TextKind.{TextKind}
-use Rattle.texts.specs.declared.seen.TextKind.the-variants.{Book, Catalogue}
-use Rattle.texts.specs.Places.{isRule, isStep, isWish, isEnd, ofWish, every, some, count, lastOr, last, ended, inPlace, inBook}
+use Rattle.texts.specs.declared.seen.TextKind.the-variants.{Book}
+use Rattle.texts.specs.Places.{isRule, isStep, isEnd, ofWish, every, some, lastOr, last, ended, inPlace}
 use Rattle.texts.specs.Reading.{counts, admitted}
-use Rattle.texts.specs.Rows.{ruleIn, wishIn, alternativeIn, onto, rowsFrom, rowsIn, Tables, tablesOf}
+use Rattle.texts.specs.Rows.{ruleIn, wishIn, alternativeIn, rowsFrom, tablesOf}
 use Rattle.texts.specs.Writing.{steps, alternativeFrame, ofLast, pastLast, wishFrames, bookFrames, ending}
 use Rattle.texts.specs.Turns.{InTurn}
-use Rattle.texts.proofs.LineLaws.{ok-err}
+use Rattle.frames.proofs.DigitLaws.{ok-err}
 use Rattle.texts.proofs.SummaryLaws.{some-more, last-more}
 
 -- an admitted frame is in its place, and counts

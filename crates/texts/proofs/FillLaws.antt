@@ -1,15 +1,14 @@
 -- Filling a table from an accepted text: one frame more, and the end.
-use Prim.Native.Nat.{ℕ, zero, suc, _+_, _-_, _<_, _≤_}
+use Prim.Native.Nat.{ℕ, zero, suc, _+_, _<_, _≤_}
 use native.Mathlib.Omega.{arith}
 use mathlib.Core.Path.{_≡_, refl, sym, ap, subst, _∙_}
-use mathlib.Core.Bool.{Bool, true, false, cond, not, _&&_}
+use mathlib.Core.Bool.{Bool, true, false, cond, not}
 use mathlib.Core.List.{List, [], _∷_, _++_}
 use lib.Dec.{ltb}
 use lib.ListN.{length, take, drop}
 use Rattle.std.proofs.shelf.Lists.{length-append, length-take-le}
 use Rattle.std.proofs.shelf.Tests.{and-parts, ltb-true, false≢true}
 use Rattle.std.specs.declared.option.Option.{Option}
-use Rattle.std.specs.declared.result.Result.{Result}
 use Rattle.std.specs.declared.result.Result.the-variants.{Ok, Err}
 use Rattle.frames.specs.declared.frame.Frame.{Frame}
 use Rattle.frames.specs.declared.frame.Frame.the-variants.{Rule, RankStep, Wish, Alternative, End, Fit}
@@ -20,13 +19,14 @@ use Rattle.texts.specs.declared.seen.TextKind.{TextKind}
 use Rattle.texts.specs.declared.seen.TextKind.the-variants.{Book, Catalogue}
 use Rattle.texts.specs.Lines.{lines}
 use Rattle.texts.specs.Places.{isStep, isWish, count, ended, inPlace}
-use Rattle.texts.specs.Reading.{refused, admitted, readFrom}
+use Rattle.texts.specs.Reading.{refused, readFrom}
 use Rattle.texts.specs.Rows.{onto, rowsIn, overwritten}
 use Rattle.texts.specs.Summary.{seenOf, stepped, placedAt}
 use Rattle.texts.proofs.BookTurns.{placed}
-use Rattle.texts.proofs.LineLaws.{ok-err, ok-same, step-read, step-on, step-refused, read-end, read-shorter}
+use Rattle.frames.proofs.DigitLaws.{ok-err, ok-same}
+use Rattle.texts.proofs.LineLaws.{step-read, step-on, step-refused, read-end, read-shorter}
 use Rattle.texts.proofs.RowLaws.{rows-more, rows-front, row-put, all-put}
-use Rattle.texts.proofs.SummaryLaws.{one-more, few-seen}
+use Rattle.texts.proofs.SummaryLaws.{one-more}
 use Rattle.texts.proofs.TurnLaws.{accepts}
 
 -- there are at most 15 rank steps

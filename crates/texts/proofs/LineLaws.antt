@@ -1,5 +1,5 @@
 -- The lines of a text, one at a time.
-use Prim.Native.Nat.{ℕ, suc, _+_, _<_, _≤_}
+use Prim.Native.Nat.{ℕ, _+_, _<_, _≤_}
 use native.Mathlib.Omega.{arith}
 use mathlib.Core.Path.{_≡_, refl, sym, ap, _∙_}
 use mathlib.Core.Bool.{Bool, true, false, cond}
@@ -16,7 +16,9 @@ use Rattle.frames.specs.declared.frame.Frame.{Frame}
 use Rattle.frames.specs.declared.frame.DigitFault.{DigitFault}
 use Rattle.frames.specs.declared.frame.FrameFault.{FrameFault}
 use Rattle.frames.specs.Digits.{digitFault, bytesOf}
-use Rattle.frames.specs.Frames.{lineOf, behind, judged, withRest, framed, readFrame}
+use Rattle.frames.proofs.DigitLaws.{some-none, some-same, ok-err, ok-same, err-same}
+use Rattle.frames.proofs.LineLaws.{behind-shorter}
+use Rattle.frames.specs.Frames.{lineOf, behind, judged, framed, readFrame}
 use Rattle.texts.specs.declared.fault.Fault.{Fault}
 use Rattle.texts.specs.declared.fault.Fault.the-variants as fault
 use Rattle.texts.specs.declared.fault.Fault.the-variants.{Place, TooLong}
@@ -26,21 +28,6 @@ use Rattle.texts.specs.declared.seen.TextKind.{TextKind}
 use Rattle.texts.specs.Lines.{Line, longer, lines, inLine, frameIn}
 use Rattle.texts.specs.Reading.{refused, andThen, atLine, asFault, admitted, readFrom, limit, framesIn}
 use Rattle.texts.specs.Summary.{kept, standing, stepped}
-
-pub some-none : {A : Type 0} {x : A} → _≡_ {A = Option A} (Some x) None → ⊥
-some-none e = let z : _≡_ {A = ℕ} 0 1 = cc in omega arith
-
-pub ok-err : {A B : Type 0} {x : A} {y : B} → _≡_ {A = Result A B} (Ok x) (Err y) → ⊥
-ok-err e = let z : _≡_ {A = ℕ} 0 1 = cc in omega arith
-
-pub ok-same : {A B : Type 0} {x y : A} → _≡_ {A = Result A B} (Ok x) (Ok y) → x ≡ y
-ok-same e = cc
-
-pub err-same : {A B : Type 0} {x y : B} → _≡_ {A = Result A B} (Err x) (Err y) → x ≡ y
-err-same e = cc
-
-pub some-same : {A : Type 0} {x y : A} → _≡_ {A = Option A} (Some x) (Some y) → x ≡ y
-some-same e = cc
 
 abbrev whole : List ℕ → Line
 whole l = record { bytes = l; ended = true }
@@ -160,14 +147,6 @@ module _ (kind : TextKind) (before : List Frame) (t : List ℕ) where
   step-refused x h e = step-not (readFrame t) x refl h e
 
 -- what follows a frame is shorter
-behind-at : (d : Bool) (t r : List ℕ) → (behind t ≡ Some r → length r < length t) → cond d (Some t) (behind t) ≡ Some r → length r < suc (length t)
-behind-at true t r ih e = let s = ap length (some-same e) in omega arith
-behind-at false t r ih e = let s = ih e in omega arith
-
-behind-shorter : (t r : List ℕ) → behind t ≡ Some r → length r < length t
-behind-shorter [] r e = absurd (some-none (sym e))
-behind-shorter (b ∷ t) r e = behind-at (eqb b 10) t r (behind-shorter t r) e
-
 pub read-shorter : (t : List ℕ) (f : Frame) (r : List ℕ) → readFrame t ≡ Ok (f, r) → length r < length t
 read-shorter t f r e = behind-shorter t r (read-first t f r e .0)
 

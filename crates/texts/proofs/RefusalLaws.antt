@@ -3,8 +3,8 @@ use Prim.Native.Nat.{ℕ, _+_, _<_, _≤_}
 use native.Mathlib.Omega.{arith}
 use mathlib.Core.Path.{_≡_, refl, sym, ap, subst, _∙_}
 use mathlib.Core.Bool.{Bool, true, false, cond}
-use mathlib.Core.List.{List, [], _∷_, _++_}
-use mathlib.Core.Logic.{_⊎_, inl, inr}
+use mathlib.Core.List.{List, [], _++_}
+use mathlib.Core.Logic.{inl, inr}
 use lib.Dec.{ltb}
 use lib.ListN.{length}
 use Rattle.std.proofs.shelf.Tests.{lt-ltb, le-ltb, ltb-true, cond-true, cond-false}
@@ -20,13 +20,13 @@ use Rattle.frames.proofs.LineLaws.{read-exact, read-good, read-back}
 use Rattle.texts.specs.declared.fault.Fault.{Fault}
 use Rattle.texts.specs.declared.fault.Fault.the-variants as fault
 use Rattle.texts.specs.declared.fault.Fault.the-variants.{Place, Count, TooLong}
-use Rattle.texts.specs.declared.fault.Refusal.{Refusal}
 use Rattle.texts.specs.declared.seen.TextKind.{TextKind}
 use Rattle.texts.specs.Lines.{lines}
-use Rattle.texts.specs.Places.{inPlace, ended}
-use Rattle.texts.specs.Reading.{limit, numberOf, refused, counts, admitted, readFrom, framesIn}
+use Rattle.texts.specs.Places.{inPlace}
+use Rattle.texts.specs.Reading.{limit, numberOf, refused, counts, readFrom, framesIn}
 use Rattle.texts.specs.Refusals.{Shows, digits, check, sort, field, missing, misplaced, miscounted, RefusedAt, RefusalsStand}
-use Rattle.texts.proofs.LineLaws.{ok-err, err-same, read-fault, read-misplaced, read-end}
+use Rattle.frames.proofs.DigitLaws.{ok-err, err-same}
+use Rattle.texts.proofs.LineLaws.{read-fault, read-misplaced, read-end}
 use Rattle.texts.proofs.TurnLaws.{Stops, refuses, read-through}
 
 module _ (kind : TextKind) (before : List Frame) (rest : List ℕ) where

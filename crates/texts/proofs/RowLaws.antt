@@ -1,11 +1,11 @@
 -- The rows that frames give, with frames behind others.
-use Prim.Native.Nat.{ℕ, _+_, _-_, _<_, _≤_}
+use Prim.Native.Nat.{ℕ, _+_, _≤_}
 use native.Mathlib.Omega.{arith}
-use mathlib.Core.Path.{_≡_, refl, sym, ap, subst, _∙_}
-use mathlib.Core.Bool.{Bool, true, false, cond}
+use mathlib.Core.Path.{_≡_, refl, sym, ap, _∙_}
+use mathlib.Core.Bool.{cond}
 use mathlib.Core.List.{List, [], _∷_, _++_}
 use lib.ListN.{length, take, drop, set}
-use Rattle.std.proofs.shelf.Lists.{append-assoc, append-nil, length-append, length-set, length-take-le, take-append-drop, take-more-set, drop-set-lt, drop-drop}
+use Rattle.std.proofs.shelf.Lists.{append-nil, length-append, length-set, length-take-le, take-append-drop, take-more-set, drop-set-lt, drop-drop}
 use Rattle.std.specs.declared.option.Option.{Option}
 use Rattle.std.specs.declared.option.Option.the-variants.{Some, None}
 use Rattle.frames.specs.declared.frame.Frame.{Frame}

@@ -1,20 +1,19 @@
 -- The next frame of a book's tables.
-use Prim.Native.Nat.{ℕ, _+_, _-_, _<_, _≤_}
+use Prim.Native.Nat.{ℕ, _+_, _<_, _≤_}
 use native.Mathlib.Omega.{arith}
-use mathlib.Core.Path.{_≡_, refl, sym, ap, subst, _∙_}
-use mathlib.Core.Bool.{Bool, true, false, cond}
+use mathlib.Core.Path.{_≡_, refl, sym, ap, _∙_}
+use mathlib.Core.Bool.{true, false}
 use mathlib.Core.List.{List, [], _∷_, _++_, map}
 use lib.Dec.{eqb}
 use lib.ListN.{length, getD, drop, length-drop}
 use Rattle.std.proofs.shelf.Lists.{drop-all, drop-more}
-use Rattle.std.proofs.shelf.Tests.{eqb-true, cond-true, cond-false, ne-eqb, false≢true}
+use Rattle.std.proofs.shelf.Tests.{eqb-true, cond-false, ne-eqb, false≢true}
 use Rattle.literals.specs.declared.condition.Condition.{Condition}
 use Rattle.tables.specs.declared.row.RuleRow.{RuleRow}
 use Rattle.tables.specs.declared.row.RuleRow.the-variants.{Plain}
 use Rattle.tables.specs.declared.row.WishRow.{WishRow}
 use Rattle.tables.specs.declared.row.AlternativeRow.{AlternativeRow}
-use Rattle.frames.specs.declared.frame.Frame.{Frame}
-use Rattle.frames.specs.declared.frame.Frame.the-variants.{Rule, RankStep, Wish, Alternative}
+use Rattle.frames.specs.declared.frame.Frame.the-variants.{Rule, RankStep, Wish}
 use Rattle.texts.specs.Summary.{bookLeft, startsLast}
 use Rattle.texts.specs.Rows.{Tables}
 use Rattle.texts.specs.Writing.{alternativeFrame, ofLast, pastLast, wishFrames, bookFrames}

@@ -7,11 +7,10 @@ use mathlib.Core.List.{List, [], _∷_, _++_}
 use lib.Dec.{eqb}
 use lib.ListN.{length}
 use Rattle.std.proofs.shelf.Lists.{length-append}
-use Rattle.std.proofs.shelf.Tests.{eq-eqb, ne-eqb}
+use Rattle.std.proofs.shelf.Tests.{ne-eqb}
 use Rattle.frames.specs.declared.frame.Frame.{Frame}
-use Rattle.frames.specs.declared.frame.Frame.the-variants.{Rule, RankStep, Wish, Alternative, End, Fit}
 use Rattle.texts.specs.declared.seen.Seen.{Seen}
-use Rattle.texts.specs.Places.{isRule, isStep, isWish, isAlternative, isEnd, isFit, ofWish, every, some, count, lastOr, last, ended}
+use Rattle.texts.specs.Places.{isRule, isStep, isWish, isAlternative, isEnd, isFit, ofWish, every, some, count, lastOr, ended}
 use Rattle.texts.specs.Summary.{seenOf, Few}
 
 pub one-more : (p : Frame → Bool) (f : Frame) (fs : List Frame) → count p (fs ++ f ∷ []) ≡ count p fs + cond (p f) 1 0

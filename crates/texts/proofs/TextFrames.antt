@@ -21,7 +21,7 @@ use Rattle.texts.specs.Places.{isEnd, ended, inPlace}
 use Rattle.texts.specs.Reading.{refused, andThen, counts, admitted, readFrom, limit, framesIn}
 use Rattle.texts.specs.Writing.{textOf, each}
 use Rattle.texts.specs.Turns.{AllGood, InTurn}
-use Rattle.texts.proofs.LineLaws.{ok-err, ok-same}
+use Rattle.frames.proofs.DigitLaws.{ok-err, ok-same}
 use Rattle.texts.proofs.SummaryLaws.{or-true, some-more}
 use Rattle.texts.proofs.TurnLaws.{accepts, read-through}
 

@@ -1,18 +1,17 @@
 -- An accepted text is the text of frames that stand in turn, and a refused one is such a text up to the line that shows the fault.
-use Prim.Native.Nat.{ℕ, zero, suc, _+_, _<_, _≤_}
+use Prim.Native.Nat.{ℕ, zero, suc, _+_, _<_}
 use native.Mathlib.Omega.{arith}
 use mathlib.Core.Path.{_≡_, refl, sym, ap, subst, _∙_}
 use mathlib.Core.Bool.{Bool, true, false, cond}
 use mathlib.Core.List.{List, [], _∷_, _++_}
 use mathlib.Core.Logic.{_⊎_, inl, inr}
 use lib.ListN.{length}
-use Rattle.std.specs.Joined.{joined}
-use Rattle.std.proofs.shelf.Lists.{append-assoc, append-nil, length-append, nil-from-length}
+use Rattle.std.proofs.shelf.Lists.{append-assoc, append-nil}
 use Rattle.std.specs.declared.result.Result.{Result}
 use Rattle.std.specs.declared.result.Result.the-variants.{Ok, Err}
 use Rattle.frames.specs.declared.frame.Frame.{Frame}
 use Rattle.frames.specs.declared.frame.FrameFault.{FrameFault}
-use Rattle.frames.specs.Frames.{lineFor, readFrame, Good}
+use Rattle.frames.specs.Frames.{lineFor, readFrame}
 use Rattle.frames.proofs.LineLaws.{read-exact, read-good, read-back}
 use Rattle.texts.specs.declared.fault.Fault.{Fault}
 use Rattle.texts.specs.declared.fault.Fault.the-variants as fault
@@ -24,7 +23,8 @@ use Rattle.texts.specs.Places.{ended}
 use Rattle.texts.specs.Reading.{refused, admitted, readFrom}
 use Rattle.texts.specs.Writing.{textOf}
 use Rattle.texts.specs.Turns.{AllGood, InTurn}
-use Rattle.texts.proofs.LineLaws.{ok-err, ok-same, err-same, read-more, read-misplaced, read-fault, read-end, read-shorter}
+use Rattle.frames.proofs.DigitLaws.{ok-err, ok-same, err-same}
+use Rattle.texts.proofs.LineLaws.{read-more, read-misplaced, read-fault, read-shorter}
 
 -- a line that shows a fault behind these frames
 abbrev pub Stops : TextKind → List Frame → List ℕ → Fault → Type 0

@@ -1,24 +1,21 @@
 -- Writing the lines of frames, one behind the other.
 use Prim.Native.Nat.{ℕ, _+_, _-_, _<_, _≤_}
 use native.Mathlib.Omega.{arith}
-use mathlib.Core.Path.{_≡_, refl, sym, ap, subst, _∙_}
-use mathlib.Core.Bool.{Bool, true, false, cond, _&&_}
+use mathlib.Core.Path.{_≡_, refl, sym, ap, _∙_}
+use mathlib.Core.Bool.{true, false}
 use mathlib.Core.List.{List, [], _∷_, _++_}
 use borrow.Rule.Slice.PartMut.{putMid}
-use lib.Dec.{leb, ltb}
 use lib.ListN.{length, take, drop}
-use Rattle.std.specs.Joined.{joined}
 use Rattle.std.specs.declared.option.Option.{Option}
-use Rattle.std.specs.declared.option.Option.the-variants.{Some, None}
+use Rattle.std.specs.declared.option.Option.the-variants.{Some}
 use Rattle.std.proofs.shelf.Lists.{append-assoc, append-nil, length-append, length-drop, drop-drop}
-use Rattle.std.proofs.shelf.Tests.{and-left, and-right, and-from, lt-leb, le-leb, le-ltb, lt-ltb, cond-true, cond-false}
+use Rattle.std.proofs.shelf.Tests.{and-left, and-right, and-from, lt-leb, le-leb, le-ltb, lt-ltb}
 use Rattle.frames.specs.declared.frame.Frame.{Frame}
 use Rattle.frames.specs.declared.frame.Frame.the-variants.{End}
 use Rattle.frames.specs.Frames.{lineFor, wroteIn, writtenIn}
-use Rattle.frames.proofs.WriteLaws.{tail-written, tail-is}
+use Rattle.frames.proofs.WriteLaws.{line-count, line-after}
 use Rattle.texts.specs.Reading.{limit}
 use Rattle.texts.specs.Writing.{ending, textOf, holdable}
-use Rattle.texts.proofs.LineLaws.{some-none, some-same}
 
 pub text-append : (xs ys : List Frame) → textOf (xs ++ ys) ≡ textOf xs ++ textOf ys
 text-append [] ys = refl
@@ -46,23 +43,16 @@ module _ (out₀ out done : List ℕ) (at : ℕ) (here : length done ≡ at) (so
   pub tail-starts : at ≤ length out
   tail-starts = let long = ap length so-far ∙ length-append done (drop at out₀) in omega arith
 
-  abbrev tail : List ℕ
-  tail = take (length out - at) (drop at out)
-
-  tail-same : tail ≡ drop at out₀
-  tail-same = tail-is out done (drop at out₀) at so-far here
-
   module _ (line : List ℕ) (room : at + length line ≤ length out₀) where
-    fits : ltb (length tail) (length line) ≡ false
-    fits = let long = ap length tail-same ∙ length-drop at out₀ in le-ltb (length tail) (length line) (omega arith)
+    fits : length line ≤ length (drop at out₀)
+    fits = let long = length-drop at out₀ in omega arith
 
-    pub has-room : wroteIn line tail ≡ Some (length line)
-    has-room = cond-false _ _ _ fits
+    pub has-room : {r : Option ℕ} → r ≡ wroteIn line (take (length out - at) (drop at out)) → r ≡ Some (length line)
+    has-room {r} e = line-count line done (drop at out₀) out at so-far here fits r e
 
-    pub written-behind : (last : List ℕ) → last ≡ writtenIn line tail → putMid at (length out - at) out last ≡ (done ++ line) ++ drop (at + length line) out₀
-    written-behind last e =
-        tail-written out last done (drop at out₀) at so-far here ∙ ap (λ t. done ++ t) (e ∙ cond-false _ _ _ fits ∙ ap (λ t. line ++ drop (length line) t) tail-same ∙ ap (λ t. line ++ t) (drop-drop (length line) at out₀ ∙ ap (λ k. drop k out₀) (omega arith)))
-        ∙ sym (append-assoc done line (drop (at + length line) out₀))
+    pub written-behind : {last : List ℕ} → last ≡ writtenIn line (take (length out - at) (drop at out)) → putMid at (length out - at) out last ≡ (done ++ line) ++ drop (at + length line) out₀
+    written-behind {last} e =
+        line-after line done (drop at out₀) out at so-far here fits last e ∙ ap (λ t. (done ++ line) ++ t) (drop-drop (length line) at out₀ ∙ ap (λ k. drop k out₀) (omega arith))
 
 -- the lines so far stand at the front of a buffer, and the rest is as it was
 pub record Written (text out₀ out : List ℕ) (at : ℕ) (fs : List Frame) (done : List ℕ) : Type 0 where
@@ -85,14 +75,14 @@ module _ {text out₀ out : List ℕ} {at : ℕ} {fs : List Frame} {done : List 
         let same = w .here in omega arith
 
     pub write-result : {r : Option ℕ} → r ≡ wroteIn (lineFor f) (take (length out - at) (drop at out)) → r ≡ Some (length (lineFor f))
-    write-result e = e ∙ has-room out₀ out done at (w .here) (w .so-far) (lineFor f) write-room
+    write-result e = has-room out₀ out done at (w .here) (w .so-far) (lineFor f) write-room e
 
     pub write-again : {last : List ℕ} {at′ : ℕ} → last ≡ writtenIn (lineFor f) (take (length out - at) (drop at out)) → at′ ≡ at + length (lineFor f) → Written text out₀ (putMid at (length out - at) out last) at′ later (done ++ lineFor f)
     write-again {last} {at′} e k =
         record {
           here = length-append done (lineFor f) ∙ ap (λ n. n + length (lineFor f)) (w .here) ∙ sym k;
           rest = text-here;
-          so-far = written-behind out₀ out done at (w .here) (w .so-far) (lineFor f) write-room last e ∙ ap (λ n. (done ++ lineFor f) ++ drop n out₀) (sym k);
+          so-far = written-behind out₀ out done at (w .here) (w .so-far) (lineFor f) write-room e ∙ ap (λ n. (done ++ lineFor f) ++ drop n out₀) (sym k);
         }
 
   pub write-done : fs ≡ [] → (at ≡ length text) × (out ≡ text ++ drop (length text) out₀)
@@ -113,5 +103,5 @@ module _ (fs : List Frame) (out₀ out : List ℕ) (at : ℕ) (here : at ≡ len
       → putMid at (length out - at) out last ≡ textOf (ending fs) ++ drop (length (textOf (ending fs))) out₀
   text-written last count same room e =
       let long = ending-long fs in
-      written-behind out₀ out (textOf fs) at (sym here) lines-stand (lineFor (End count)) (omega arith) last e ∙ ap (λ k. (textOf fs ++ lineFor (End k)) ++ drop (at + 9) out₀) same
+      written-behind out₀ out (textOf fs) at (sym here) lines-stand (lineFor (End count)) (omega arith) e ∙ ap (λ k. (textOf fs ++ lineFor (End k)) ++ drop (at + 9) out₀) same
       ∙ ap (λ t. t ++ drop (at + 9) out₀) (sym (ending-text fs)) ∙ ap (λ k. textOf (ending fs) ++ drop k out₀) (omega arith)

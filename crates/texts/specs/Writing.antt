@@ -1,6 +1,6 @@
 -- The texts of tables, and the tables that have one.
 use Prim.Native.Nat.{ℕ, zero, suc, _+_, _-_}
-use mathlib.Core.Bool.{Bool, true, false, cond, not, _&&_}
+use mathlib.Core.Bool.{Bool, true, cond, _&&_}
 use mathlib.Core.List.{List, [], _∷_, _++_, map}
 use lib.Dec.{leb, ltb, eqb}
 use lib.ListN.{length, drop}
@@ -8,7 +8,6 @@ use Rattle.std.specs.Joined.{joined}
 use Rattle.std.specs.declared.result.Result.{Result}
 use Rattle.std.specs.declared.result.Result.the-variants.{Ok, Err}
 use Rattle.literals.specs.declared.literal_set.LiteralSet.{LiteralSet}
-use Rattle.tables.specs.declared.row.RuleRow.{RuleRow}
 use Rattle.tables.specs.declared.row.WishRow.{WishRow}
 use Rattle.tables.specs.declared.row.AlternativeRow.{AlternativeRow}
 use Rattle.tables.specs.Rows.{makesRule, makesWish, makesAlternative, makesFit}

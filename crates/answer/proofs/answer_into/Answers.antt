@@ -1,14 +1,10 @@
-use Prim.Native.Nat.{_≤_}
 use native.Mathlib.Omega.{arith}
-use mathlib.Core.Bool.{true}
-use mathlib.Core.List.{List}
-use mathlib.Core.Path.{_≡_, sym, ap, subst, _∙_}
+use mathlib.Core.Path.{sym, ap, _∙_}
 use lib.ListN.{length}
 use Rattle.std.proofs.shelf.Tests.{le-ltb, cond-false}
-use Rattle.std.specs.declared.result.Result.the-variants.{Ok, Err}
-use Rattle.texts.specs.Rows.{Tables, readBook}
+use Rattle.texts.specs.Rows.{readBook}
 use Rattle.texts.specs.Writing.{bookText, writableBook}
-use Rattle.answer.specs.Answers.{longest, shown, answered}
+use Rattle.answer.specs.Answers.{longest, shown}
 use Rattle.answer.proofs.AnswerLaws.{read-some, read-none, fronts-within, fronts-are, book-of, again, sized}
 use Rattle.answer.proofs.answer_into.Needs as need
 

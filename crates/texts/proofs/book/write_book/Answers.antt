@@ -4,7 +4,7 @@ use mathlib.Core.Path.{_≡_, refl, sym, ap, _∙_}
 use lib.ListN.{length}
 use Rattle.std.proofs.shelf.Tests.{and-parts}
 use Rattle.tables.specs.Rows.{makesRule, makesWish, makesAlternative}
-use Rattle.texts.specs.Rows.{Tables, tablesFrom}
+use Rattle.texts.specs.Rows.{tablesFrom}
 use Rattle.texts.specs.Writing.{each, orderly, holdable, bookFrames, writableBook, ending, textOf, writeText, written}
 use Rattle.texts.proofs.RoundTrip.{book-writing}
 use Rattle.texts.proofs.SourceLaws.{all-left}

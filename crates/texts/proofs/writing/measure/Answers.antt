@@ -1,6 +1,5 @@
-use Prim.Native.Nat.{_+_, _<_, _≤_}
 use native.Mathlib.Omega.{arith}
-use mathlib.Core.Path.{sym, ap, _∙_}
+use mathlib.Core.Path.{ap, _∙_}
 use mathlib.Core.Logic.{inl, inr}
 use lib.ListN.{length}
 use Rattle.std.proofs.shelf.Lists.{length-append}

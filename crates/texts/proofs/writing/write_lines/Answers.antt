@@ -2,10 +2,10 @@ use Prim.Native.Nat.{_+_, _≤_}
 use native.Mathlib.Omega.{arith}
 use borrow.Author.Needs.{needs}
 use mathlib.Core.List.{_++_, []}
-use mathlib.Core.Path.{_≡_, refl, sym, ap, _∙_}
+use mathlib.Core.Path.{refl, sym, ap, _∙_}
 use lib.ListN.{length}
 use Rattle.frames.specs.Frames.{lineFor}
-use Rattle.texts.proofs.LineLaws.{some-none, some-same}
+use Rattle.frames.proofs.DigitLaws.{some-same}
 use Rattle.texts.proofs.WriteLaws.{write-start, write-room, write-result, write-again, write-done}
 use Rattle.texts.proofs.writing.write_lines.Needs as need
 

@@ -1,8 +1,6 @@
 use native.Mathlib.Omega.{arith}
 use Rattle.std.proofs.shelf.Bits.{ones-le, and-le-l}
 use lib.Bits.{bitAnd}
-use lib.Count.{ones}
-use Prim.Native.Nat.{_≤_}
 use Rattle.literals.proofs.literal_set.LiteralSet.count_common.Needs as need
 
 pub add-result : need.add-result

@@ -1,4 +1,3 @@
-use Rattle.std.proofs.shelf.Tests.{eqb-true}
 use Rattle.std.proofs.shelf.Ways.{decides-like, decides-eqb}
 use Rattle.literals.specs.Sets.{atom, negated}
 use Rattle.literals.proofs.Bitsets.{and-apart, apart-and}

@@ -1,5 +1,4 @@
 use native.Mathlib.Omega.{arith}
-use mathlib.Core.Path.{sym}
 use Rattle.literals.proofs.SetLaws.{single-even, single-odd}
 use Rattle.literals.proofs.literal_set.LiteralSet.of.Needs as need
 

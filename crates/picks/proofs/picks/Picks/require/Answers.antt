@@ -2,7 +2,7 @@
 use mathlib.Core.Path.{sym, subst}
 use mathlib.Core.Logic.{inr}
 use Rattle.std.proofs.shelf.Ways.{not-from-decides}
-use Rattle.literals.specs.Sets.{Lit, In}
+use Rattle.literals.specs.Sets.{In}
 use Rattle.picks.proofs.Sides.{sound-require}
 use Rattle.picks.proofs.picks.Picks.require.Needs as need
 

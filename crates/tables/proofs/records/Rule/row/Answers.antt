@@ -1,4 +1,4 @@
-use mathlib.Core.Path.{_≡_, sym, ap, _∙_}
+use mathlib.Core.Path.{sym, ap, _∙_}
 use Rattle.tables.specs.Making.{headRow}
 use Rattle.tables.specs.declared.row.RuleRow.the-variants as row
 use Rattle.tables.proofs.Faithfulness.{rule-faithful}
