@@ -29,6 +29,11 @@ abbrev pub writeNumber : WriteFault → ℕ
 writeNumber TooWide = 22
 writeNumber BufferShort = 21
 
+-- They lie in no line of a text.
+abbrev pub writeLine : WriteFault → ℕ
+writeLine TooWide = 0
+writeLine BufferShort = 0
+
 -- Every column is a number of two bytes.
 abbrev pub allNarrow : List ℕ → Bool
 allNarrow [] = true

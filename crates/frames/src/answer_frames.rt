@@ -5,7 +5,7 @@ ghost use mathlib.Core.List.{_++_, _∷_, []};
 ghost use Prim.Native.Nat.{_+_, _*_, _≤_};
 ghost use lib.ListN.{length, drop};
 ghost use Rattle.std.specs.Joined.{joined};
-ghost use Rattle.frames.specs.AnswerLines.{writeNumber, narrow, rowLine, moreLine, refusalLine, wrote, wroteRow, rowWrittenIn};
+ghost use Rattle.frames.specs.AnswerLines.{writeNumber, writeLine, narrow, rowLine, moreLine, refusalLine, wrote, wroteRow, rowWrittenIn};
 ghost use Rattle.frames.specs.Frames.{wordBytes, wroteIn, writtenIn};
 use crate::writer::write_line;
 
@@ -27,6 +27,13 @@ impl WriteFault {
             WriteFault::TooWide => 22,
             WriteFault::BufferShort => 21,
         }
+    }
+
+    // The line of the refusal.
+    pub fn line(self) -> u32
+        ensures { λ r. ⌜ r ≡ writeLine self ⌝ }
+    {
+        0
     }
 }
 

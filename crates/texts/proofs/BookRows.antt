@@ -18,7 +18,8 @@ use Rattle.frames.specs.Frames.{RuleFits}
 use Rattle.texts.specs.declared.seen.TextKind.the-variants.{Book}
 use Rattle.texts.specs.Places.{isStep, isWish, ofWish, count, last, ended}
 use Rattle.texts.specs.Reading.{limit}
-use Rattle.texts.specs.Rows.{ruleIn, wishIn, alternativeIn, onto, rowsFrom, rowsIn, Tables, tablesOf}
+use Rattle.tables.specs.Tables.{onto}
+use Rattle.texts.specs.Rows.{ruleIn, wishIn, alternativeIn, rowsFrom, rowsIn, Tables, tablesOf}
 use Rattle.texts.specs.Writing.{textOf, ending, bookFrames, each, rising, holdable, writableBook}
 use Rattle.texts.specs.Meaning.{WishFits, AlternativeFits, TablesFit}
 use Rattle.texts.specs.Turns.{AllGood, InTurn}

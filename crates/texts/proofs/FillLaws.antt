@@ -20,7 +20,8 @@ use Rattle.texts.specs.declared.seen.TextKind.the-variants.{Book, Catalogue}
 use Rattle.texts.specs.Lines.{lines}
 use Rattle.texts.specs.Places.{isStep, isWish, count, ended, inPlace}
 use Rattle.texts.specs.Reading.{refused, readFrom}
-use Rattle.texts.specs.Rows.{onto, rowsIn, overwritten}
+use Rattle.tables.specs.Tables.{onto}
+use Rattle.texts.specs.Rows.{rowsIn, overwritten}
 use Rattle.texts.specs.Summary.{seenOf, stepped, placedAt}
 use Rattle.texts.proofs.BookTurns.{placed}
 use Rattle.frames.proofs.DigitLaws.{ok-err, ok-same}

@@ -21,7 +21,8 @@ use Rattle.texts.specs.declared.seen.TextKind.the-variants.{Book, Catalogue}
 use Rattle.texts.specs.Summary.{seenOf}
 use Rattle.texts.specs.Places.{isRule, isStep, isWish, isAlternative, isFit, count}
 use Rattle.texts.specs.Reading.{refused, andThen, framesIn}
-use Rattle.texts.specs.Rows.{ruleIn, wishIn, alternativeIn, fitIn, onto, rowsFrom, rowsIn, Tables, tablesOf, readCatalogue, readBook}
+use Rattle.tables.specs.Tables.{onto}
+use Rattle.texts.specs.Rows.{ruleIn, wishIn, alternativeIn, fitIn, rowsFrom, rowsIn, Tables, tablesOf, readCatalogue, readBook}
 
 onto-length : {R : Type 0} (o : Option R) (rows : List R) → length (onto o rows) ≡ length (onto o []) + length rows
 onto-length None rows = omega arith

@@ -10,7 +10,8 @@ use Rattle.std.specs.declared.option.Option.{Option}
 use Rattle.std.specs.declared.option.Option.the-variants.{Some, None}
 use Rattle.frames.specs.declared.frame.Frame.{Frame}
 use Rattle.texts.specs.Places.{isStep, isWish, count}
-use Rattle.texts.specs.Rows.{onto, rowsFrom, rowsIn, overwritten}
+use Rattle.tables.specs.Tables.{onto}
+use Rattle.texts.specs.Rows.{rowsFrom, rowsIn, overwritten}
 use Rattle.texts.specs.Summary.{placedAt}
 
 onto-append : {R : Type 0} (o : Option R) (xs ys : List R) → onto o (xs ++ ys) ≡ onto o xs ++ ys

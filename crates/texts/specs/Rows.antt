@@ -12,6 +12,7 @@ use Rattle.literals.specs.declared.literal_set.LiteralSet.{LiteralSet}
 use Rattle.tables.specs.declared.row.RuleRow.{RuleRow}
 use Rattle.tables.specs.declared.row.WishRow.{WishRow}
 use Rattle.tables.specs.declared.row.AlternativeRow.{AlternativeRow}
+use Rattle.tables.specs.Tables.{onto}
 use Rattle.frames.specs.declared.frame.Frame.{Frame}
 use Rattle.frames.specs.declared.frame.Frame.the-variants.{Rule, RankStep, Wish, Alternative, End, Fit}
 use Rattle.texts.specs.declared.fault.Fault.the-variants.{TableShort}
@@ -55,10 +56,6 @@ fitIn steps wishes (Wish body) = None
 fitIn steps wishes (Alternative level condition) = None
 fitIn steps wishes (End count) = None
 fitIn steps wishes (Fit set) = Some set
-
-abbrev pub onto : {A : Type 0} → Option A → List A → List A
-onto None rows = rows
-onto (Some row) rows = row ∷ rows
 
 -- all rows of one table, by what a frame gives to it
 abbrev pub rowsFrom : {R : Type 0} → (ℕ → ℕ → Frame → Option R) → ℕ → ℕ → List Frame → List R
