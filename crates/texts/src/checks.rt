@@ -52,7 +52,7 @@ pub impl Row for AlternativeRow as RowOfAlternative {
 }
 
 // Whether each row makes a record.
-pub fn all_make_records<R: Row + Copy>(rows: &[R]) -> bool
+pub(crate) fn all_make_records<R: Row + Copy>(rows: &[R]) -> bool
     ensures { λ r. ⌜ r ≡ each makes (now (rows .entry)) ⌝ }
 {
     for row in rows {
@@ -104,7 +104,7 @@ fn wishes_exist(alternatives: &[AlternativeRow], wishes: usize) -> bool
 }
 
 // Whether wishes stand in the order of their ranks, and alternatives in that of their wishes, none without its wish.
-pub fn are_orderly(wishes: &[WishRow], alternatives: &[AlternativeRow]) -> bool
+pub(crate) fn are_orderly(wishes: &[WishRow], alternatives: &[AlternativeRow]) -> bool
     ensures { λ r. ⌜ r ≡ orderly (now (wishes .entry)) (now (alternatives .entry)) ⌝ }
 {
     ranks_rise(wishes) && wishes_rise(alternatives) && wishes_exist(alternatives, wishes.len())

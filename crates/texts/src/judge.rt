@@ -17,10 +17,10 @@ use frames::Frame;
 use frames::read_frame;
 
 // The longest text, in bytes.
-pub const LIMIT: usize = 1_048_576;
+pub(crate) const LIMIT: usize = 1_048_576;
 
 // The frame at the front of a text, where it may come next, together with the text that follows it.
-pub fn next_frame(kind: TextKind, seen: Seen, text: &[u8]) -> Result<(Frame, &[u8]), Fault>
+pub(crate) fn next_frame(kind: TextKind, seen: Seen, text: &[u8]) -> Result<(Frame, &[u8]), Fault>
     ensures { λ r. ⌜ ((fs : List Frame) → seen ≡ seenOf fs → Cases r (λ p. stepped kind fs (now (text .entry)) ≡ Ok (p .0, now (p .1))) (λ e. stepped kind fs (now (text .entry)) ≡ Err e)) ⌝ }
 {
     let (frame, rest) = read_frame(text)?;
@@ -57,7 +57,7 @@ fn judge(kind: TextKind, text: &[u8]) -> Result<Seen, Refusal>
 }
 
 // What has been seen of an accepted text; a text above the limit is refused before its lines are looked at.
-pub fn accept(kind: TextKind, text: &[u8]) -> Result<Seen, Refusal>
+pub(crate) fn accept(kind: TextKind, text: &[u8]) -> Result<Seen, Refusal>
     ensures { λ r. ⌜ Cases r (λ seen. (fs : List Frame) × (framesIn kind (now (text .entry)) ≡ Ok fs) × (seen ≡ seenOf fs)) (λ e. framesIn kind (now (text .entry)) ≡ Err e) ⌝ }
 {
     if text.len() > LIMIT {

@@ -97,7 +97,7 @@ fn put<R: Copy>(table: &mut [R], count: usize, row: Option<R>) -> usize
 }
 
 // Writes the rows that an accepted text gives at the front of a table.
-pub fn fill<R: FrameRow + Copy>(kind: TextKind, text: &[u8], table: &mut [R])
+pub(crate) fn fill<R: FrameRow + Copy>(kind: TextKind, text: &[u8], table: &mut [R])
     requires { ⌜ ((fs : List Frame) × (framesIn kind (now text) ≡ Ok fs) × (length (rowsIn given fs) ≤ length (now table))) ⌝ }
     ensures { λ _. ⌜ ((fs : List Frame) → framesIn kind (now (text .entry)) ≡ Ok fs → now (table .exit) ≡ overwritten (rowsIn given fs) (now (table .entry))) ⌝ }
 {

@@ -62,7 +62,7 @@ fn write_lines<F: FrameSource + Copy>(frames: F, out: &mut [u8]) -> usize
 }
 
 // Writes the text of frames, the end frame included, at the front of a buffer; how many bytes it has. A refusal leaves the buffer as it was.
-pub fn write_text<F: FrameSource + Copy>(frames: F, out: &mut [u8]) -> Result<usize, Refusal>
+pub(crate) fn write_text<F: FrameSource + Copy>(frames: F, out: &mut [u8]) -> Result<usize, Refusal>
     ensures result { λ r. ⌜ r ≡ writeText (holdable (left frames)) (textOf (ending (left frames))) (length (now (out .entry))) ⌝ }
     ensures buffer { λ r. ⌜ now (out .exit) ≡ written r (textOf (ending (left frames))) (now (out .entry)) ⌝ }
 {

@@ -15,7 +15,7 @@ const STEPS: usize = 15;
 
 impl Seen {
     // Nothing yet.
-    pub fn start() -> Seen
+    pub(crate) fn start() -> Seen
         ensures { λ r. ⌜ r ≡ seenOf [] ⌝ }
     {
         Seen {
@@ -56,7 +56,7 @@ impl Seen {
     }
 
     // Refuses a frame that may not come next.
-    pub fn admit(self, kind: TextKind, frame: Frame) -> Result<(), Fault>
+    pub(crate) fn admit(self, kind: TextKind, frame: Frame) -> Result<(), Fault>
         ensures { λ r. ⌜ ((fs : List Frame) → self ≡ seenOf fs → r ≡ admitted kind fs frame) ⌝ }
     {
         let in_place = match kind {
@@ -75,7 +75,7 @@ impl Seen {
     }
 
     // What has been seen with one frame more.
-    pub fn after(self, frame: Frame) -> Seen
+    pub(crate) fn after(self, frame: Frame) -> Seen
         requires { ⌜ Few self ⌝ }
         ensures { λ r. ⌜ ((fs : List Frame) → self ≡ seenOf fs → r ≡ seenOf (fs ++ frame ∷ [])) ⌝ }
     {
