@@ -2,11 +2,11 @@
 use Prim.Native.Nat.{ℕ, suc, _+_, _-_, _<_, _≤_}
 use native.Mathlib.Omega.{arith}
 use mathlib.Core.Path.{_≡_, refl, sym, ap, subst, _∙_}
-use mathlib.Core.Bool.{Bool, true, false, cond, not, _&&_, _||_}
+use mathlib.Core.Bool.{Bool, true, false, cond, not, _&&_}
 use mathlib.Core.List.{List, [], _∷_, _++_, map}
 use lib.ListN.{length}
 use Rattle.std.proofs.shelf.Lists.{append-assoc, append-nil, length-append}
-use Rattle.std.proofs.shelf.Tests.{and-parts, eq-eqb, ne-eqb, eqb-true, cond-true, cond-false, false≢true}
+use Rattle.std.proofs.shelf.Tests.{and-parts, and-right, eq-eqb, ne-eqb, eqb-true, cond-true, cond-false, false≢true}
 use Rattle.std.specs.declared.result.Result.{Result}
 use Rattle.std.specs.declared.result.Result.the-variants.{Ok, Err}
 use Rattle.literals.specs.declared.condition.Condition.{Condition}
@@ -18,13 +18,13 @@ use Rattle.texts.specs.declared.fault.Fault.{Fault}
 use Rattle.texts.specs.declared.fault.Fault.the-variants.{Place, Count}
 use Rattle.texts.specs.declared.seen.TextKind.{TextKind}
 use Rattle.texts.specs.declared.seen.TextKind.the-variants.{Book}
-use Rattle.texts.specs.Places.{isRule, isStep, isEnd, ofWish, every, some, lastOr, last, ended, inPlace}
+use Rattle.texts.specs.Places.{isRule, isStep, ofWish, every, some, lastOr, last, ended, inPlace}
 use Rattle.texts.specs.Reading.{counts, admitted}
 use Rattle.texts.specs.Rows.{ruleIn, wishIn, alternativeIn, rowsFrom, tablesOf}
 use Rattle.texts.specs.Writing.{steps, alternativeFrame, ofLast, pastLast, wishFrames, bookFrames, ending}
 use Rattle.texts.specs.Turns.{InTurn}
 use Rattle.frames.proofs.DigitLaws.{ok-err}
-use Rattle.texts.proofs.SummaryLaws.{some-more, last-more}
+use Rattle.texts.proofs.SummaryLaws.{end-ended, ended-still, last-more}
 
 -- an admitted frame is in its place, and counts
 admitted-parts : (p c : Bool) → _≡_ {A = Result (Unit {0}) Fault} (cond p (cond c (Ok tt) (Err Count)) (Err Place)) (Ok tt) → (p ≡ true) × (c ≡ true)
@@ -34,10 +34,6 @@ admitted-parts false c e = absurd (ok-err (sym e))
 
 pub placed : (kind : TextKind) (before : List Frame) (f : Frame) → admitted kind before f ≡ Ok tt → (inPlace kind before f ≡ true) × (counts before f ≡ true)
 placed kind before f e = admitted-parts (inPlace kind before f) (counts before f) e
-
-and-false : (b : Bool) → b && false ≡ false
-and-false true = refl
-and-false false = refl
 
 and-assoc : (a b c : Bool) → a && (b && c) ≡ (a && b) && c
 and-assoc true b c = refl
@@ -52,26 +48,19 @@ every-more p f [] = and-true (p f)
 every-more p f (g ∷ fs) = ap (λ b. p g && b) (every-more p f fs) ∙ and-assoc (p g) (every p fs) (p f)
 
 every-not : (p : Frame → Bool) (f : Frame) (fs : List Frame) → p f ≡ false → every p (fs ++ f ∷ []) ≡ false
-every-not p f fs e = every-more p f fs ∙ ap (λ b. every p fs && b) e ∙ and-false (every p fs)
+every-not p f fs e = every-more p f fs ∙ ap (λ b. every p fs && b) e ∙ and-right (every p fs) false refl
 
 over : {b : Bool} → b ≡ true → not b ≡ true → ⊥
 over {b} e n = false≢true (sym (ap not e) ∙ n)
-
-or-true : (b : Bool) → b || true ≡ true
-or-true true = refl
-or-true false = refl
-
-ended-now : (before : List Frame) (n : ℕ) → ended (before ++ End n ∷ []) ≡ true
-ended-now before n = some-more isEnd (End n) before ∙ or-true (ended before)
 
 -- nothing stands behind the end frame
 none-behind : (before : List Frame) (n : ℕ) (tail : List Frame) → InTurn Book (before ++ End n ∷ []) tail → tail ≡ []
 none-behind before n [] t = refl
 none-behind before n (Rule row ∷ tail) t = absurd (false≢true (sym (every-not isRule (End n) before refl) ∙ placed Book (before ++ End n ∷ []) (Rule row) (t .0) .0))
-none-behind before n (RankStep ∷ tail) t = absurd (over (ended-now before n) (and-parts _ _ (placed Book (before ++ End n ∷ []) RankStep (t .0) .0) .0))
-none-behind before n (Wish body ∷ tail) t = absurd (over (ended-now before n) (placed Book (before ++ End n ∷ []) (Wish body) (t .0) .0))
+none-behind before n (RankStep ∷ tail) t = absurd (over (end-ended before n) (and-parts _ _ (placed Book (before ++ End n ∷ []) RankStep (t .0) .0) .0))
+none-behind before n (Wish body ∷ tail) t = absurd (over (end-ended before n) (placed Book (before ++ End n ∷ []) (Wish body) (t .0) .0))
 none-behind before n (Alternative level condition ∷ tail) t = absurd (false≢true (sym (last-more false ofWish (End n) before) ∙ placed Book (before ++ End n ∷ []) (Alternative level condition) (t .0) .0))
-none-behind before n (End m ∷ tail) t = absurd (over (ended-now before n) (and-parts _ _ (placed Book (before ++ End n ∷ []) (End m) (t .0) .0) .0))
+none-behind before n (End m ∷ tail) t = absurd (over (end-ended before n) (and-parts _ _ (placed Book (before ++ End n ∷ []) (End m) (t .0) .0) .0))
 none-behind before n (Fit set ∷ tail) t = absurd (false≢true (placed Book (before ++ End n ∷ []) (Fit set) (t .0) .0))
 
 -- alternatives belong to the last wish before them, or to a later one
@@ -206,9 +195,6 @@ module _ (before : List Frame) (s n r m : ℕ) (rank : r ≡ s + 1) (number : m 
         ahead = λ on. absurd (over on off);
         apart = λ x. (refl, refl);
       }
-
-ended-still : (before : List Frame) (f : Frame) → ended before ≡ false → isEnd f ≡ false → ended (before ++ f ∷ []) ≡ false
-ended-still before f e g = some-more isEnd f before ∙ ap (λ b. b || isEnd f) e ∙ g
 
 -- behind its rules
 wishes-end : (tail before : List Frame) (s n r m : ℕ) → r ≡ s + 1 → m ≡ n → (last ofWish before ≡ true → 1 ≤ n) → (headRule tail ≡ true → every isRule before ≡ false)

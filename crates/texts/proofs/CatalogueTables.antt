@@ -2,7 +2,7 @@
 use Prim.Native.Nat.{ℕ, _+_, _≤_}
 use native.Mathlib.Omega.{arith}
 use mathlib.Core.Path.{_≡_, refl, sym, ap, _∙_}
-use mathlib.Core.Bool.{true, false, _||_}
+use mathlib.Core.Bool.{true, false}
 use mathlib.Core.List.{List, [], _∷_, _++_}
 use lib.ListN.{length}
 use Rattle.std.specs.shelf.Lists.{All}
@@ -14,20 +14,17 @@ use Rattle.frames.specs.declared.frame.Frame.{Frame}
 use Rattle.frames.specs.declared.frame.Frame.the-variants.{Rule, RankStep, Wish, Alternative, End, Fit}
 use Rattle.frames.specs.Frames.{SetFits}
 use Rattle.texts.specs.declared.seen.TextKind.the-variants.{Catalogue}
-use Rattle.texts.specs.Places.{isEnd, ended}
+use Rattle.texts.specs.Places.{ended}
 use Rattle.texts.specs.Reading.{limit}
 use Rattle.texts.specs.Rows.{fitIn, rowsFrom, rowsIn}
 use Rattle.texts.specs.Writing.{textOf, ending, fitFrames, each, holdable, writableCatalogue}
 use Rattle.texts.specs.Turns.{AllGood, InTurn}
 use Rattle.texts.proofs.BookTurns.{placed}
-use Rattle.texts.proofs.SummaryLaws.{some-more}
-use Rattle.texts.proofs.TextFrames.{admits, end-ended, good-last, all-passed, passed-all}
+use Rattle.texts.proofs.SummaryLaws.{end-ended, ended-still}
+use Rattle.texts.proofs.TextFrames.{admits, good-last, all-passed, passed-all}
 
 abbrev GoodFit : LiteralSet → Type 0
 GoodFit s = SetFits s × (makesFit s ≡ true)
-
-still-going : (before : List Frame) (set : LiteralSet) → ended before ≡ false → ended (before ++ Fit set ∷ []) ≡ false
-still-going before set e = some-more isEnd (Fit set) before ∙ ap (λ b. b || false) e
 
 -- nothing stands behind the end frame
 none-behind : (before : List Frame) (n : ℕ) (tail : List Frame) → InTurn Catalogue (before ++ End n ∷ []) tail → tail ≡ []
@@ -51,7 +48,7 @@ fits-then-end (End k ∷ tail) before going t done =
     let p = placed Catalogue before (End k) (t .0) in
     ([], ap (λ x. End k ∷ x) (none-behind before k tail (t .1)) ∙ ap (λ j. End j ∷ []) (eqb-true k (length before) (p .1) ∙ omega arith))
 fits-then-end (Fit set ∷ tail) before going t done =
-    let (rows, is) = fits-then-end tail (before ++ Fit set ∷ []) (still-going before set going) (t .1) (ap ended (append-assoc before (Fit set ∷ []) tail) ∙ done) in
+    let (rows, is) = fits-then-end tail (before ++ Fit set ∷ []) (ended-still before (Fit set) going refl) (t .1) (ap ended (append-assoc before (Fit set ∷ []) tail) ∙ done) in
     let long = length-append before (Fit set ∷ []) in
     (set ∷ rows, ap (λ x. Fit set ∷ x) is ∙ ap (λ k. Fit set ∷ (fitFrames rows ++ End k ∷ [])) (omega arith))
 
@@ -59,7 +56,7 @@ fits-turn : (rows : List LiteralSet) (before : List Frame) (k : ℕ) → ended b
 fits-turn [] before k going e = (admits Catalogue before (End k) (not-from-false _ going) (eq-eqb k (length before) (omega arith)), tt)
 fits-turn (set ∷ rows) before k going e =
     let long = length-append before (Fit set ∷ []) in
-    (admits Catalogue before (Fit set) (not-from-false _ going) refl, fits-turn rows (before ++ Fit set ∷ []) k (still-going before set going) (omega arith))
+    (admits Catalogue before (Fit set) (not-from-false _ going) refl, fits-turn rows (before ++ Fit set ∷ []) k (ended-still before (Fit set) going refl) (omega arith))
 
 fits-good : (rows : List LiteralSet) (tail : List Frame) → All GoodFit rows → AllGood tail → AllGood (fitFrames rows ++ tail)
 fits-good [] tail h g = g

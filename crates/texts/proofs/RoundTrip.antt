@@ -19,7 +19,8 @@ use Rattle.texts.proofs.BookTables.{book-written}
 use Rattle.texts.proofs.BookTurns.{book-frames}
 use Rattle.texts.proofs.CatalogueTables.{catalogue-rows, catalogue-frames, catalogue-turn, catalogue-good, catalogue-writable}
 use Rattle.texts.proofs.RefusalLaws.{refusals-stand}
-use Rattle.texts.proofs.TextFrames.{Framed, framed, frames-back, made-from, end-ended}
+use Rattle.texts.proofs.SummaryLaws.{end-ended}
+use Rattle.texts.proofs.TextFrames.{Framed, framed, frames-back, made-from}
 
 -- the frames of an accepted catalogue
 catalogue-framed : (text : List ℕ) (rows : List LiteralSet) → catalogue text ≡ Ok rows → Framed Catalogue text (ending (fitFrames rows))

@@ -9,6 +9,7 @@ use lib.ListN.{length}
 use Rattle.std.proofs.shelf.Lists.{length-append}
 use Rattle.std.proofs.shelf.Tests.{ne-eqb}
 use Rattle.frames.specs.declared.frame.Frame.{Frame}
+use Rattle.frames.specs.declared.frame.Frame.the-variants.{End}
 use Rattle.texts.specs.declared.seen.Seen.{Seen}
 use Rattle.texts.specs.Places.{isRule, isStep, isWish, isAlternative, isEnd, isFit, ofWish, every, some, count, lastOr, ended}
 use Rattle.texts.specs.Summary.{seenOf, Few}
@@ -32,6 +33,13 @@ or-true false = refl
 pub some-more : (p : Frame → Bool) (f : Frame) (fs : List Frame) → some p (fs ++ f ∷ []) ≡ some p fs || p f
 some-more p f [] = sym (or-false (p f))
 some-more p f (g ∷ fs) = ap (λ b. p g || b) (some-more p f fs) ∙ or-assoc (p g) (some p fs) (p f)
+
+-- the end frame ends a text, and no other frame does
+pub end-ended : (before : List Frame) (n : ℕ) → ended (before ++ End n ∷ []) ≡ true
+end-ended before n = some-more isEnd (End n) before ∙ sym (or-true (ended before))
+
+pub ended-still : (before : List Frame) (f : Frame) → ended before ≡ false → isEnd f ≡ false → ended (before ++ f ∷ []) ≡ false
+ended-still before f e g = some-more isEnd f before ∙ ap (λ b. b || isEnd f) e ∙ g
 
 pub last-more : (none : Bool) (p : Frame → Bool) (f : Frame) (fs : List Frame) → lastOr none p (fs ++ f ∷ []) ≡ p f
 last-more none p f [] = refl

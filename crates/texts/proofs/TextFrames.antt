@@ -11,18 +11,16 @@ use Rattle.std.proofs.shelf.Tests.{and-parts, and-from, ltb-false, le-ltb, cond
 use Rattle.std.specs.declared.result.Result.{Result}
 use Rattle.std.specs.declared.result.Result.the-variants.{Ok, Err}
 use Rattle.frames.specs.declared.frame.Frame.{Frame}
-use Rattle.frames.specs.declared.frame.Frame.the-variants.{End}
 use Rattle.frames.specs.Frames.{Good}
 use Rattle.texts.specs.declared.fault.Fault.the-variants.{TooLong}
 use Rattle.texts.specs.declared.fault.Refusal.{Refusal}
 use Rattle.texts.specs.declared.seen.TextKind.{TextKind}
 use Rattle.texts.specs.Lines.{lines}
-use Rattle.texts.specs.Places.{isEnd, ended, inPlace}
+use Rattle.texts.specs.Places.{ended, inPlace}
 use Rattle.texts.specs.Reading.{refused, andThen, counts, admitted, readFrom, limit, framesIn}
 use Rattle.texts.specs.Writing.{textOf, each}
 use Rattle.texts.specs.Turns.{AllGood, InTurn}
 use Rattle.frames.proofs.DigitLaws.{ok-err, ok-same}
-use Rattle.texts.proofs.SummaryLaws.{or-true, some-more}
 use Rattle.texts.proofs.TurnLaws.{accepts, read-through}
 
 -- a text of these frames that is accepted
@@ -63,9 +61,6 @@ made-from (Err z) make y e = absurd (ok-err (sym e))
 -- a frame in its place that counts is admitted
 pub admits : (kind : TextKind) (before : List Frame) (f : Frame) → inPlace kind before f ≡ true → counts before f ≡ true → admitted kind before f ≡ Ok tt
 admits kind before f p c = cond-true _ _ _ p ∙ cond-true _ _ _ c
-
-pub end-ended : (before : List Frame) (k : ℕ) → ended (before ++ End k ∷ []) ≡ true
-end-ended before k = some-more isEnd (End k) before ∙ sym (or-true (ended before))
 
 pub good-last : (fs : List Frame) (f : Frame) → AllGood (fs ++ f ∷ []) → Good f
 good-last [] f g = g .0
