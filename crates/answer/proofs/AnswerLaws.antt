@@ -73,8 +73,8 @@ module _ (r : Result Tables Refusal) (t : Tables) (read : r ≡ Ok t) (size : Bo
 
     pub fronts-are : fronts size rules wishes alternatives ≡ t
     fronts-are = λ i.
-      tablesFrom (front-is (t .rules) rules₀ rules (size .rules) (ap (λ s. s .rules) size-is) rules-are i) (front-is (t .wishes) wishes₀ wishes (size .wishes) (ap (λ s. s .wishes) size-is) wishes-are i)
-      (front-is (t .alternatives) alternatives₀ alternatives (size .alternatives) (ap (λ s. s .alternatives) size-is) alternatives-are i)
+        tablesFrom (front-is (t .rules) rules₀ rules (size .rules) (ap (λ s. s .rules) size-is) rules-are i) (front-is (t .wishes) wishes₀ wishes (size .wishes) (ap (λ s. s .wishes) size-is) wishes-are i)
+        (front-is (t .alternatives) alternatives₀ alternatives (size .alternatives) (ap (λ s. s .alternatives) size-is) alternatives-are i)
 
 -- tables that were read are those of the text
 not-short : (b : Bool) (u t : Tables) → cond b (refused TableShort 0) (Ok u) ≡ Ok t → u ≡ t

@@ -26,7 +26,9 @@ pub const LONGEST: usize = 65_536;
 
 // The lengths of the tables.
 const RULES: usize = 512;
+
 const WISHES: usize = 64;
+
 const ALTERNATIVES: usize = 512;
 
 // Writes the line of a refusal at the front of a buffer; its length.
@@ -42,7 +44,13 @@ fn refuse(refusal: Refusal, out: &mut [u8]) -> usize
 }
 
 // Writes the text of the first rows of tables at the front of a buffer; its length.
-fn write_fronts(rules: &[RuleRow], wishes: &[WishRow], alternatives: &[AlternativeRow], size: BookSize, out: &mut [u8]) -> usize
+fn write_fronts(
+    rules: &[RuleRow],
+    wishes: &[WishRow],
+    alternatives: &[AlternativeRow],
+    size: BookSize,
+    out: &mut [u8],
+) -> usize
     requires rules { ⌜ size .rules ≤ length (now rules) ⌝ }
     requires wishes { ⌜ size .wishes ≤ length (now wishes) ⌝ }
     requires alternatives { ⌜ size .alternatives ≤ length (now alternatives) ⌝ }
@@ -54,14 +62,25 @@ fn write_fronts(rules: &[RuleRow], wishes: &[WishRow], alternatives: &[Alternati
     let rule_count = size.rules;
     let wish_count = size.wishes;
     let alternative_count = size.alternatives;
-    match write_book(&rules[0..rule_count], &wishes[0..wish_count], &alternatives[0..alternative_count], out) {
+    match write_book(
+        &rules[0..rule_count],
+        &wishes[0..wish_count],
+        &alternatives[0..alternative_count],
+        out,
+    ) {
         Ok(count) => count,
         Err(_) => 0,
     }
 }
 
 // Writes the answer at the front of a buffer, by means of these tables; its length.
-fn answer_into(input: &[u8], rules: &mut [RuleRow], wishes: &mut [WishRow], alternatives: &mut [AlternativeRow], out: &mut [u8]) -> usize
+fn answer_into(
+    input: &[u8],
+    rules: &mut [RuleRow],
+    wishes: &mut [WishRow],
+    alternatives: &mut [AlternativeRow],
+    out: &mut [u8],
+) -> usize
     requires rules { ⌜ length (now rules) ≡ 512 ⌝ }
     requires wishes { ⌜ length (now wishes) ≡ 64 ⌝ }
     requires alternatives { ⌜ length (now alternatives) ≡ 512 ⌝ }
@@ -86,7 +105,14 @@ fn answer_into(input: &[u8], rules: &mut [RuleRow], wishes: &mut [WishRow], alte
 }
 
 // The answer, worked out in these tables and this buffer.
-fn answer_in(heap: Global, input: &[u8], rules: &mut [RuleRow], wishes: &mut [WishRow], alternatives: &mut [AlternativeRow], out: &mut [u8]) -> Result<Vec<u8>, AllocError>
+fn answer_in(
+    heap: Global,
+    input: &[u8],
+    rules: &mut [RuleRow],
+    wishes: &mut [WishRow],
+    alternatives: &mut [AlternativeRow],
+    out: &mut [u8],
+) -> Result<Vec<u8>, AllocError>
     requires rules { ⌜ length (now rules) ≡ 512 ⌝ }
     requires wishes { ⌜ length (now wishes) ≡ 64 ⌝ }
     requires alternatives { ⌜ length (now alternatives) ≡ 512 ⌝ }

@@ -31,7 +31,7 @@ seenOf fs = record {
   fits = count isFit fs;
   ended = ended fs;
   «on_step» = last isStep fs;
-  «on_wish» = last ofWish fs
+  «on_wish» = last ofWish fs;
 }
 
 -- so few that none of the numbers can overflow

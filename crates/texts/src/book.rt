@@ -37,7 +37,12 @@ fn is_short(seen: Seen, rules: usize, wishes: usize, alternatives: usize) -> boo
 }
 
 // Reads a book text into the fronts of three tables; how many rows each has got. A refusal leaves the tables as they were.
-pub fn read_book(text: &[u8], rules: &mut [RuleRow], wishes: &mut [WishRow], alternatives: &mut [AlternativeRow]) -> Result<BookSize, Refusal>
+pub fn read_book(
+    text: &[u8],
+    rules: &mut [RuleRow],
+    wishes: &mut [WishRow],
+    alternatives: &mut [AlternativeRow],
+) -> Result<BookSize, Refusal>
     ensures result { λ r. ⌜ r ≡ bookCount (readBook (now (text .entry)) (length (now (rules .entry))) (length (now (wishes .entry))) (length (now (alternatives .entry)))) ⌝ }
     ensures meaning { λ _. ⌜ BookReading (now (text .entry)) ⌝ }
     ensures rules { λ _. ⌜ now (rules .exit) ≡ overwritten (rowsOf (λ t. t .rules) (readBook (now (text .entry)) (length (now (rules .entry))) (length (now (wishes .entry))) (length (now (alternatives .entry))))) (now (rules .entry)) ⌝ }
@@ -65,11 +70,19 @@ pub fn read_book(text: &[u8], rules: &mut [RuleRow], wishes: &mut [WishRow], alt
 fn are_sound(rules: &[RuleRow], wishes: &[WishRow], alternatives: &[AlternativeRow]) -> bool
     ensures { λ r. ⌜ r ≡ each makesRule (now (rules .entry)) && (each makesWish (now (wishes .entry)) && (each makesAlternative (now (alternatives .entry)) && orderly (now (wishes .entry)) (now (alternatives .entry)))) ⌝ }
 {
-    all_make_records(rules) && all_make_records(wishes) && all_make_records(alternatives) && are_orderly(wishes, alternatives)
+    all_make_records(rules)
+        && all_make_records(wishes)
+        && all_make_records(alternatives)
+        && are_orderly(wishes, alternatives)
 }
 
 // Writes the text of a book at the front of a buffer; how many bytes it has. A refusal leaves the buffer as it was.
-pub fn write_book(rules: &[RuleRow], wishes: &[WishRow], alternatives: &[AlternativeRow], out: &mut [u8]) -> Result<usize, Refusal>
+pub fn write_book(
+    rules: &[RuleRow],
+    wishes: &[WishRow],
+    alternatives: &[AlternativeRow],
+    out: &mut [u8],
+) -> Result<usize, Refusal>
     ensures result { λ r. ⌜ r ≡ writeText (writableBook (tablesFrom (now (rules .entry)) (now (wishes .entry)) (now (alternatives .entry)))) (bookText (tablesFrom (now (rules .entry)) (now (wishes .entry)) (now (alternatives .entry)))) (length (now (out .entry))) ⌝ }
     ensures meaning { λ _. ⌜ BookWriting (tablesFrom (now (rules .entry)) (now (wishes .entry)) (now (alternatives .entry))) ⌝ }
     ensures buffer { λ r. ⌜ now (out .exit) ≡ written r (bookText (tablesFrom (now (rules .entry)) (now (wishes .entry)) (now (alternatives .entry)))) (now (out .entry)) ⌝ }

@@ -76,7 +76,11 @@ pub impl FrameSource for BookFrames<'_, '_, '_> as FramesOfBook {
             return Some(Frame::Rule(rule));
         }
         if self.alternative_follows() {
-            let AlternativeRow { wish: _, level, condition } = self.alternatives[self.alternative];
+            let AlternativeRow {
+                wish: _,
+                level,
+                condition,
+            } = self.alternatives[self.alternative];
             self.alternative += 1;
             return Some(Frame::Alternative { level, condition });
         }

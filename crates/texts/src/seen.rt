@@ -1,6 +1,5 @@
 // What has been seen of a text so far, and whether a frame may come next.
 
-
 mod calls;
 
 // The two sorts of texts.

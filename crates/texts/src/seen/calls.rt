@@ -39,7 +39,10 @@ impl Seen {
             Frame::Rule(_) => self.rules == self.frames,
             Frame::RankStep => !self.ended && self.steps < STEPS,
             Frame::Wish(_) => !self.ended,
-            Frame::Alternative { level: _, condition: _ } => self.on_wish,
+            Frame::Alternative {
+                level: _,
+                condition: _,
+            } => self.on_wish,
             Frame::End(_) => !self.ended && !self.on_step,
             Frame::Fit(_) => false,
         }
@@ -93,7 +96,10 @@ impl Seen {
                 seen.wishes += 1;
                 seen.on_wish = true;
             }
-            Frame::Alternative { level: _, condition: _ } => {
+            Frame::Alternative {
+                level: _,
+                condition: _,
+            } => {
                 seen.alternatives += 1;
                 seen.on_wish = true;
             }

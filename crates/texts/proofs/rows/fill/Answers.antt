@@ -22,7 +22,7 @@ pub of-frame-requires : need.of-frame-requires
 of-frame-requires g c κs = let (fs, going) = c .loop-frame .inv in let steps = ap (λ s. s .steps) (going .known) in omega (arith, going .ranks)
 
 pub after-seen-requires : need.after-seen-requires
-after-seen-requires g c κs = let (fs, going) = c .loop-frame .inv in 
+after-seen-requires g c κs = let (fs, going) = c .loop-frame .inv in
     let (whole, all, room) = c .pre in
     let (short, ok) = within-limit (c .args .kind) (c .args .text .now) whole all in few-seen (c .loop-frame .seen) fs (going .known) (omega (arith, going .short, short))
 
