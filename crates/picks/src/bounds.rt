@@ -5,11 +5,11 @@ ghost use Rattle.picks.specs.Between.{Between, BoundsOf, FirstOpen, Including,
 ghost use Rattle.literals.specs.Sets.{_⊑_, Difference, named};
 ghost use Rattle.literals.specs.declared.literal_set.LiteralSet.{LiteralSet as ASet};
 ghost use Rattle.std.specs.Orderings.{Decides};
+use crate::picks::Picks;
 use literals::Literal;
 use literals::LiteralSet;
 use literals::LiteralSetDebug;
 use literals::LiteralSetPartialEq;
-use crate::picks::Picks;
 
 // A set lies between them when it has every literal of `lower` and none outside `upper`.
 #[derive(Clone, Copy, PartialEq, Eq, Debug)]
