@@ -1,6 +1,7 @@
 -- The rows that the frames of a text give, table by table.
 use Prim.Native.Nat.{ℕ, _+_, _-_}
 use mathlib.Core.Bool.{cond, _||_}
+use mathlib.Core.Path.{_≡_}
 use mathlib.Core.List.{List, [], _∷_, _++_}
 use lib.Dec.{ltb}
 use lib.ListN.{length, drop}
@@ -114,3 +115,11 @@ sizeOf t = record { rules = length (t .rules); wishes = length (t .wishes); alte
 abbrev pub bookCount : Result Tables Refusal → Result BookSize Refusal
 bookCount (Ok t) = Ok (sizeOf t)
 bookCount (Err e) = Err e
+
+-- What reading a book into tables gives, and the tables after it.
+pub record BookRead (text : List ℕ) (rules : List RuleRow) (wishes : List WishRow) (alternatives : List AlternativeRow) (r : Result BookSize Refusal) (rules′ : List RuleRow) (wishes′ : List WishRow)
+    (alternatives′ : List AlternativeRow) : Type 0 where
+  pub result : r ≡ bookCount (readBook text (length rules) (length wishes) (length alternatives))
+  pub rule-table : rules′ ≡ overwritten (rowsOf (λ t. t .rules) (readBook text (length rules) (length wishes) (length alternatives))) rules
+  pub wish-table : wishes′ ≡ overwritten (rowsOf (λ t. t .wishes) (readBook text (length rules) (length wishes) (length alternatives))) wishes
+  pub alternative-table : alternatives′ ≡ overwritten (rowsOf (λ t. t .alternatives) (readBook text (length rules) (length wishes) (length alternatives))) alternatives

@@ -95,6 +95,12 @@ writableBook t =
 abbrev pub writeText : Bool → List ℕ → ℕ → Result ℕ Refusal
 writeText writable text room = cond writable (cond (ltb room (length text)) (refused BufferShort 0) (Ok (length text))) (refused NoText 0)
 
+abbrev pub writeCatalogue : List LiteralSet → ℕ → Result ℕ Refusal
+writeCatalogue rows room = writeText (writableCatalogue rows) (catalogueText rows) room
+
+abbrev pub writeBook : Tables → ℕ → Result ℕ Refusal
+writeBook t room = writeText (writableBook t) (bookText t) room
+
 -- A buffer after writing: the text at its front; a refusal changes nothing.
 abbrev pub written : Result ℕ Refusal → List ℕ → List ℕ → List ℕ
 written (Ok count) text out = text ++ drop count out

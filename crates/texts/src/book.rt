@@ -3,10 +3,10 @@ ghost use mathlib.Core.Bool.{_&&_, _||_};
 ghost use mathlib.Core.Path.{_≡_};
 ghost use lib.Dec.{ltb};
 ghost use lib.ListN.{length};
-ghost use Rattle.texts.specs.Meaning.{BookReading, BookWriting};
 ghost use Rattle.tables.specs.Rows.{makesRule, makesWish, makesAlternative};
-ghost use Rattle.texts.specs.Rows.{readBook, bookCount, rowsOf, overwritten, tablesFrom};
-ghost use Rattle.texts.specs.Writing.{each, orderly, bookText, writableBook, writeText, written};
+ghost use Rattle.texts.specs.Meaning.{BookReading, BookWriting};
+ghost use Rattle.texts.specs.Rows.{BookRead, tablesFrom};
+ghost use Rattle.texts.specs.Writing.{each, orderly, bookText, writeBook, written};
 use crate::book_size::BookSize;
 use crate::checks::RowOfAlternative;
 use crate::checks::RowOfRule;
@@ -43,11 +43,8 @@ pub fn read_book(
     wishes: &mut [WishRow],
     alternatives: &mut [AlternativeRow],
 ) -> Result<BookSize, Refusal>
-    ensures result { λ r. ⌜ r ≡ bookCount (readBook (now (text .entry)) (length (now (rules .entry))) (length (now (wishes .entry))) (length (now (alternatives .entry)))) ⌝ }
+    ensures read { λ r. ⌜ BookRead (now (text .entry)) (now (rules .entry)) (now (wishes .entry)) (now (alternatives .entry)) r (now (rules .exit)) (now (wishes .exit)) (now (alternatives .exit)) ⌝ }
     ensures meaning { λ _. ⌜ BookReading (now (text .entry)) ⌝ }
-    ensures rules { λ _. ⌜ now (rules .exit) ≡ overwritten (rowsOf (λ t. t .rules) (readBook (now (text .entry)) (length (now (rules .entry))) (length (now (wishes .entry))) (length (now (alternatives .entry))))) (now (rules .entry)) ⌝ }
-    ensures wishes { λ _. ⌜ now (wishes .exit) ≡ overwritten (rowsOf (λ t. t .wishes) (readBook (now (text .entry)) (length (now (rules .entry))) (length (now (wishes .entry))) (length (now (alternatives .entry))))) (now (wishes .entry)) ⌝ }
-    ensures alternatives { λ _. ⌜ now (alternatives .exit) ≡ overwritten (rowsOf (λ t. t .alternatives) (readBook (now (text .entry)) (length (now (rules .entry))) (length (now (wishes .entry))) (length (now (alternatives .entry))))) (now (alternatives .entry)) ⌝ }
 {
     let seen = accept(TextKind::Book, text)?;
     if is_short(seen, rules.len(), wishes.len(), alternatives.len()) {
@@ -83,7 +80,7 @@ pub fn write_book(
     alternatives: &[AlternativeRow],
     out: &mut [u8],
 ) -> Result<usize, Refusal>
-    ensures result { λ r. ⌜ r ≡ writeText (writableBook (tablesFrom (now (rules .entry)) (now (wishes .entry)) (now (alternatives .entry)))) (bookText (tablesFrom (now (rules .entry)) (now (wishes .entry)) (now (alternatives .entry)))) (length (now (out .entry))) ⌝ }
+    ensures result { λ r. ⌜ r ≡ writeBook (tablesFrom (now (rules .entry)) (now (wishes .entry)) (now (alternatives .entry))) (length (now (out .entry))) ⌝ }
     ensures meaning { λ _. ⌜ BookWriting (tablesFrom (now (rules .entry)) (now (wishes .entry)) (now (alternatives .entry))) ⌝ }
     ensures buffer { λ r. ⌜ now (out .exit) ≡ written r (bookText (tablesFrom (now (rules .entry)) (now (wishes .entry)) (now (alternatives .entry)))) (now (out .entry)) ⌝ }
 {

@@ -3,7 +3,7 @@ ghost use mathlib.Core.Path.{_≡_};
 ghost use lib.ListN.{length};
 ghost use Rattle.texts.specs.Meaning.{CatalogueReading, CatalogueWriting};
 ghost use Rattle.texts.specs.Rows.{readCatalogue, rowCount, rowsOf, overwritten};
-ghost use Rattle.texts.specs.Writing.{catalogueText, writableCatalogue, writeText, written};
+ghost use Rattle.texts.specs.Writing.{catalogueText, writeCatalogue, written};
 use crate::checks::RowOfFit;
 use crate::checks::all_make_records;
 use crate::fault::Fault;
@@ -36,7 +36,7 @@ pub fn read_catalogue(text: &[u8], table: &mut [LiteralSet]) -> Result<usize, Re
 
 // Writes the text of a catalogue at the front of a buffer; how many bytes it has. A refusal leaves the buffer as it was.
 pub fn write_catalogue(rows: &[LiteralSet], out: &mut [u8]) -> Result<usize, Refusal>
-    ensures result { λ r. ⌜ r ≡ writeText (writableCatalogue (now (rows .entry))) (catalogueText (now (rows .entry))) (length (now (out .entry))) ⌝ }
+    ensures result { λ r. ⌜ r ≡ writeCatalogue (now (rows .entry)) (length (now (out .entry))) ⌝ }
     ensures meaning { λ _. ⌜ CatalogueWriting (now (rows .entry)) ⌝ }
     ensures buffer { λ r. ⌜ now (out .exit) ≡ written r (catalogueText (now (rows .entry))) (now (out .entry)) ⌝ }
 {

@@ -20,11 +20,13 @@ returns-then-is-short c =
     let (fs, ok, known) = c .in-Continue-seen .ensures tt in
     let short = book-short (c .args .text .now) (length (c .args .rules .now)) (length (c .args .wishes .now)) (length (c .args .alternatives .now)) fs (c .in-Continue-seen .seen) known ok (sym (c .is-short .ensures) ∙ c .if-is-short .taken) in
     record {
-      result = sym (ap bookCount short);
+      read = record {
+        result = sym (ap bookCount short);
+        rule-table = after (λ t. t .rules) (c .args .rules .now) short;
+        wish-table = after (λ t. t .wishes) (c .args .wishes .now) short;
+        alternative-table = after (λ t. t .alternatives) (c .args .alternatives .now) short;
+      };
       meaning = book-reading (c .args .text .now);
-      rules = after (λ t. t .rules) (c .args .rules .now) short;
-      wishes = after (λ t. t .wishes) (c .args .wishes .now) short;
-      alternatives = after (λ t. t .alternatives) (c .args .alternatives .now) short;
     }
 
 pub fill-requires : need.fill-requires
@@ -55,12 +57,18 @@ returns c =
     let size : _≡_ {A = BookSize} (record { rules = c .in-Continue-seen .seen .rules; wishes = c .in-Continue-seen .seen .wishes; alternatives = c .in-Continue-seen .seen .alternatives }) (sizeOf (tablesOf fs)) =
     λ i. record { rules = sym (sizes .0) i; wishes = sym (sizes .1) i; alternatives = sym (sizes .2) i } in
     record {
-      result = ap Ok size ∙ sym (ap bookCount read);
+      read = record {
+        result = ap Ok size ∙ sym (ap bookCount read);
+        rule-table = c .fill .ensures fs ok ∙ after (λ t. t .rules) (c .args .rules .now) read;
+        wish-table = c .fill-2 .ensures fs ok ∙ after (λ t. t .wishes) (c .args .wishes .now) read;
+        alternative-table = c .fill-3 .ensures fs ok ∙ after (λ t. t .alternatives) (c .args .alternatives .now) read;
+      };
       meaning = book-reading (c .args .text .now);
-      rules = c .fill .ensures fs ok ∙ after (λ t. t .rules) (c .args .rules .now) read;
-      wishes = c .fill-2 .ensures fs ok ∙ after (λ t. t .wishes) (c .args .wishes .now) read;
-      alternatives = c .fill-3 .ensures fs ok ∙ after (λ t. t .alternatives) (c .args .alternatives .now) read;
     }
 
 pub returns-in-Break-seen : need.returns-in-Break-seen
-returns-in-Break-seen c = record { result = search needs; meaning = book-reading (c .args .text .now); rules = search needs; wishes = search needs; alternatives = search needs }
+returns-in-Break-seen c =
+    record {
+      read = record { result = search needs; rule-table = search needs; wish-table = search needs; alternative-table = search needs };
+      meaning = book-reading (c .args .text .now);
+    }
