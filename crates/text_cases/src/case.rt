@@ -18,52 +18,86 @@ use std::alloc::Global;
 use std::error::AnyError;
 use texts::BookSize;
 
-fn read_book_case(heap: Global, lengths: BookSize, words: &[&str]) -> Result<String, AnyError> {
-    let text = text_of(heap, words)?;
-    let mut tables = Book::new(heap, lengths)?;
+// A case that lacks words.
+fn lacking<T>() -> Result<T, AnyError> {
+    Err("a case lacks words".into())
+}
+
+fn read_book_case(heap: Global, words: &[&str]) -> Result<String, AnyError> {
+    let [rules, wishes, alternatives, text @ ..] = words else {
+        return lacking();
+    };
+    let lengths = BookSize {
+        rules: rules.parse::<usize>()?,
+        wishes: wishes.parse::<usize>()?,
+        alternatives: alternatives.parse::<usize>()?,
+    };
+    let text = text_of(heap, text)?;
+    Ok(read_text(heap, text.as_slice(), &mut Book::new(heap, lengths)?)?)
+}
+
+fn read_catalogue_case(heap: Global, words: &[&str]) -> Result<String, AnyError> {
+    let [fits, text @ ..] = words else {
+        return lacking();
+    };
+    let mut tables = Catalogue::new(heap, fits.parse::<usize>()?)?;
+    let text = text_of(heap, text)?;
     Ok(read_text(heap, text.as_slice(), &mut tables)?)
 }
 
-fn read_catalogue_case(heap: Global, length: usize, words: &[&str]) -> Result<String, AnyError> {
-    let text = text_of(heap, words)?;
-    let mut tables = Catalogue::new(heap, length)?;
-    Ok(read_text(heap, text.as_slice(), &mut tables)?)
+fn write_book_case(heap: Global, words: &[&str]) -> Result<String, AnyError> {
+    let [room, rows @ ..] = words else {
+        return lacking();
+    };
+    let tables = book_of(heap, rows)?;
+    Ok(write_text(heap, &tables, room.parse::<usize>()?)?)
 }
 
-// What comes of the case of these words.
+fn write_catalogue_case(heap: Global, words: &[&str]) -> Result<String, AnyError> {
+    let [room, rows @ ..] = words else {
+        return lacking();
+    };
+    let tables = catalogue_of(heap, rows)?;
+    Ok(write_text(heap, &tables, room.parse::<usize>()?)?)
+}
+
+fn row_case(heap: Global, words: &[&str]) -> Result<String, AnyError> {
+    let [room, columns @ ..] = words else {
+        return lacking();
+    };
+    let columns = columns_of(heap, columns)?;
+    Ok(try_row(heap, columns.as_slice(), room.parse::<usize>()?)?)
+}
+
+fn more_case(heap: Global, words: &[&str]) -> Result<String, AnyError> {
+    let [room] = words else {
+        return lacking();
+    };
+    Ok(try_more(heap, room.parse::<usize>()?)?)
+}
+
+fn refusal_case(heap: Global, words: &[&str]) -> Result<String, AnyError> {
+    let [room, number, line] = words else {
+        return lacking();
+    };
+    let number = number.parse::<u8>()?;
+    let line = line.parse::<u32>()?;
+    Ok(try_refusal(heap, number, line, room.parse::<usize>()?)?)
+}
+
+// What comes of the case of these words, the first telling its kind.
 fn try_case(heap: Global, words: &[&str]) -> Result<String, AnyError> {
-    match words {
-        ["book", rules, wishes, alternatives, text @ ..] => {
-            let lengths = BookSize {
-                rules: rules.parse::<usize>()?,
-                wishes: wishes.parse::<usize>()?,
-                alternatives: alternatives.parse::<usize>()?,
-            };
-            read_book_case(heap, lengths, text)
-        }
-        ["catalogue", fits, text @ ..] => read_catalogue_case(heap, fits.parse::<usize>()?, text),
-        ["write-book", room, rows @ ..] => Ok(
-            write_text(heap, &book_of(heap, rows)?, room.parse::<usize>()?)?,
-        ),
-        ["write-catalogue", room, rows @ ..] => Ok(
-            write_text(heap, &catalogue_of(heap, rows)?, room.parse::<usize>()?)?,
-        ),
-        ["row", room, columns @ ..] => Ok(
-            try_row(
-                heap,
-                columns_of(heap, columns)?.as_slice(),
-                room.parse::<usize>()?,
-            )?,
-        ),
-        ["more", room] => Ok(try_more(heap, room.parse::<usize>()?)?),
-        ["refusal", room, number, line] => Ok(
-            try_refusal(
-                heap,
-                number.parse::<u8>()?,
-                line.parse::<u32>()?,
-                room.parse::<usize>()?,
-            )?,
-        ),
+    let [kind, words @ ..] = words else {
+        return lacking();
+    };
+    match *kind {
+        "book" => read_book_case(heap, words),
+        "catalogue" => read_catalogue_case(heap, words),
+        "write-book" => write_book_case(heap, words),
+        "write-catalogue" => write_catalogue_case(heap, words),
+        "row" => row_case(heap, words),
+        "more" => more_case(heap, words),
+        "refusal" => refusal_case(heap, words),
         _ => Err("no such case".into()),
     }
 }

@@ -31,21 +31,36 @@ fn set_of(plus: &str, minus: &str) -> Result<LiteralSet, AnyError> {
     })
 }
 
+fn choice_of(least: &str, greatest: &str, head: LiteralSet) -> Result<RuleRow, AnyError> {
+    Ok(RuleRow::Choice {
+        least: least.parse::<u8>()?,
+        greatest: greatest.parse::<u8>()?,
+        head,
+        body: ALWAYS,
+    })
+}
+
+// The rule of these fields, the first being its name.
+fn rule_of(fields: &[&str]) -> Result<RuleRow, AnyError> {
+    match fields {
+        ["plain", code] => Ok(RuleRow::Plain {
+            code: code.parse::<u8>()?,
+            body: ALWAYS,
+        }),
+        ["constraint"] => Ok(RuleRow::Constraint { body: ALWAYS }),
+        ["choice", least, greatest, plus, minus] => choice_of(
+            least,
+            greatest,
+            set_of(plus, minus)?,
+        ),
+        _ => Err("no such row".into()),
+    }
+}
+
 // The row of these fields, the first being its name.
 fn row_of(fields: &[&str]) -> Result<Row, AnyError> {
     Ok(
         match fields {
-            ["plain", code] => Row::Rule(RuleRow::Plain {
-                code: code.parse::<u8>()?,
-                body: ALWAYS,
-            }),
-            ["constraint"] => Row::Rule(RuleRow::Constraint { body: ALWAYS }),
-            ["choice", least, greatest, plus, minus] => Row::Rule(RuleRow::Choice {
-                least: least.parse::<u8>()?,
-                greatest: greatest.parse::<u8>()?,
-                head: set_of(plus, minus)?,
-                body: ALWAYS,
-            }),
             ["wish", rank] => Row::Wish(WishRow {
                 rank: rank.parse::<u8>()?,
                 body: ALWAYS,
@@ -56,7 +71,7 @@ fn row_of(fields: &[&str]) -> Result<Row, AnyError> {
                 condition: ALWAYS,
             }),
             ["fit", plus, minus] => Row::Fit(set_of(plus, minus)?),
-            _ => return Err("no such row".into()),
+            other => Row::Rule(rule_of(other)?),
         },
     )
 }
@@ -67,10 +82,8 @@ fn rows_of(heap: Global, words: &[&str]) -> Result<Vec<Row>, AnyError> {
     for word in words {
         let (times, once) = repeated(word)?;
         let fields: Vec<&str> = once.split(':').collect(heap)?;
-        let row = row_of(fields.as_slice())?;
-        for _ in 0..times {
-            rows.push(row)?;
-        }
+        let copies = vec![in heap; row_of(fields.as_slice())?; times]?;
+        rows.extend_from_slice(copies.as_slice())?;
     }
     Ok(rows)
 }

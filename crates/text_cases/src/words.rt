@@ -15,9 +15,8 @@ pub fn columns_of(heap: Global, words: &[&str]) -> Result<Vec<u64>, AnyError> {
     let mut columns = Vec::new(heap);
     for word in words {
         let (times, column) = repeated(word)?;
-        for _ in 0..times {
-            columns.push(column.parse::<u64>()?)?;
-        }
+        let copies = vec![in heap; column.parse::<u64>()?; times]?;
+        columns.extend_from_slice(copies.as_slice())?;
     }
     Ok(columns)
 }
