@@ -36,20 +36,20 @@ pub trait Order {
     fn none_better(&self, bounds: Bounds, fit: Fit) -> bool
         ensures { λ r. ⌜ (r ≡ true → NoneBetter (better (now (self .entry))) bounds fit) ⌝ }
     {
-        false
+        false // one may be better
     }
 
     // True only if `fit` is better than every fit between the bounds.
     fn all_worse(&self, fit: Fit, bounds: Bounds) -> bool
         ensures { λ r. ⌜ (r ≡ true → AllWorse (better (now (self .entry))) fit bounds) ⌝ }
     {
-        false
+        false // one may be as good
     }
 
     // True only if `a` and `b` are bettered by the same fits, and better the same fits.
     fn are_alike(&self, a: Fit, b: Fit) -> bool
         ensures { λ r. ⌜ (r ≡ true → Alike (better (now (self .entry))) a b) ⌝ }
     {
-        false
+        false // a fit may tell them apart
     }
 }
