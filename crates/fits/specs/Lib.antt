@@ -1,0 +1,4 @@
+pub mod First
+pub mod Filters
+pub mod Orders
+pub mod Listed
