@@ -23,7 +23,7 @@ pub after-more : (a : Option Fit) (f g : Fit) → After a f → place f ≤ plac
 after-more (Some a) f g h k = omega arith
 after-more None f g h k = tt
 
--- what passes does not come where a fit does not pass
+-- a fit that passes, and does not come before one that does not pass, comes after it
 pub apart : (P : Fit → Bool) (f g : Fit) → false ≡ P f → T (P g) → place f ≤ place g → place f < place g
 apart P f g out t le = elim (eq-or-lt-of-le le) [ inr lt ↦ lt | inl eq ↦ absurd (subst T (sym out) (subst (λ x. T (P x)) (sym (known-by-place f g eq)) t)) ]
 

@@ -5,7 +5,7 @@ use mathlib.Core.Path.{_≡_, sym, subst}
 use Prim.Native.Nat.{ℕ, _+_, _≤_, _<_}
 use lib.ListN.{length, getD, take}
 use Rattle.std.specs.declared.option.Option.{Option}
-use Rattle.std.specs.declared.option.Option.the-variants.{Some, None}
+use Rattle.std.specs.declared.option.Option.the-variants.{Some}
 use Rattle.std.proofs.shelf.Elements.{has-append-left, has-push, has-push-cases}
 use Rattle.std.proofs.shelf.Lists.{take-more, take-all}
 use Rattle.literals.specs.declared.literal_set.LiteralSet.{LiteralSet}

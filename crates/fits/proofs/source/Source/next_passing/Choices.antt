@@ -1,4 +1,3 @@
-use lib.Dec.{T}
 use Rattle.picks.specs.declared.fit.Fit.{Fit}
 use Rattle.fits.specs.First.{After, NextPassing}
 use Rattle.fits.proofs.Firsts.{to-go}
