@@ -37,49 +37,49 @@ module _ {R : Type 0} (given : ℕ → ℕ → Frame → Option R) (gives : Fram
       let rest = row-count (s + cond (isStep f) 1 0) (n + cond (isWish f) 1 0) fs in
       let here = one s n f in onto-length (given s n f) later ∙ omega arith
 
-one-rule : (s n : ℕ) (f : Frame) → length (onto (ruleIn s n f) []) ≡ cond (isRule f) 1 0
-one-rule s n (Rule row) = refl
-one-rule s n RankStep = refl
-one-rule s n (Wish body) = refl
-one-rule s n (Alternative level condition) = refl
-one-rule s n (End k) = refl
-one-rule s n (Fit set) = refl
+rules-once : (s n : ℕ) (f : Frame) → length (onto (ruleIn s n f) []) ≡ cond (isRule f) 1 0
+rules-once s n (Rule row) = refl
+rules-once s n RankStep = refl
+rules-once s n (Wish body) = refl
+rules-once s n (Alternative level condition) = refl
+rules-once s n (End k) = refl
+rules-once s n (Fit set) = refl
 
-one-wish : (s n : ℕ) (f : Frame) → length (onto (wishIn s n f) []) ≡ cond (isWish f) 1 0
-one-wish s n (Rule row) = refl
-one-wish s n RankStep = refl
-one-wish s n (Wish body) = refl
-one-wish s n (Alternative level condition) = refl
-one-wish s n (End k) = refl
-one-wish s n (Fit set) = refl
+wishes-once : (s n : ℕ) (f : Frame) → length (onto (wishIn s n f) []) ≡ cond (isWish f) 1 0
+wishes-once s n (Rule row) = refl
+wishes-once s n RankStep = refl
+wishes-once s n (Wish body) = refl
+wishes-once s n (Alternative level condition) = refl
+wishes-once s n (End k) = refl
+wishes-once s n (Fit set) = refl
 
-one-alternative : (s n : ℕ) (f : Frame) → length (onto (alternativeIn s n f) []) ≡ cond (isAlternative f) 1 0
-one-alternative s n (Rule row) = refl
-one-alternative s n RankStep = refl
-one-alternative s n (Wish body) = refl
-one-alternative s n (Alternative level condition) = refl
-one-alternative s n (End k) = refl
-one-alternative s n (Fit set) = refl
+alternatives-once : (s n : ℕ) (f : Frame) → length (onto (alternativeIn s n f) []) ≡ cond (isAlternative f) 1 0
+alternatives-once s n (Rule row) = refl
+alternatives-once s n RankStep = refl
+alternatives-once s n (Wish body) = refl
+alternatives-once s n (Alternative level condition) = refl
+alternatives-once s n (End k) = refl
+alternatives-once s n (Fit set) = refl
 
-one-fit : (s n : ℕ) (f : Frame) → length (onto (fitIn s n f) []) ≡ cond (isFit f) 1 0
-one-fit s n (Rule row) = refl
-one-fit s n RankStep = refl
-one-fit s n (Wish body) = refl
-one-fit s n (Alternative level condition) = refl
-one-fit s n (End k) = refl
-one-fit s n (Fit set) = refl
+fits-once : (s n : ℕ) (f : Frame) → length (onto (fitIn s n f) []) ≡ cond (isFit f) 1 0
+fits-once s n (Rule row) = refl
+fits-once s n RankStep = refl
+fits-once s n (Wish body) = refl
+fits-once s n (Alternative level condition) = refl
+fits-once s n (End k) = refl
+fits-once s n (Fit set) = refl
 
 pub rule-count : (fs : List Frame) → length (rowsIn ruleIn fs) ≡ count isRule fs
-rule-count fs = row-count ruleIn isRule one-rule 0 0 fs
+rule-count fs = row-count ruleIn isRule rules-once 0 0 fs
 
 pub wish-count : (fs : List Frame) → length (rowsIn wishIn fs) ≡ count isWish fs
-wish-count fs = row-count wishIn isWish one-wish 0 0 fs
+wish-count fs = row-count wishIn isWish wishes-once 0 0 fs
 
 pub alternative-count : (fs : List Frame) → length (rowsIn alternativeIn fs) ≡ count isAlternative fs
-alternative-count fs = row-count alternativeIn isAlternative one-alternative 0 0 fs
+alternative-count fs = row-count alternativeIn isAlternative alternatives-once 0 0 fs
 
 pub fit-count : (fs : List Frame) → length (rowsIn fitIn fs) ≡ count isFit fs
-fit-count fs = row-count fitIn isFit one-fit 0 0 fs
+fit-count fs = row-count fitIn isFit fits-once 0 0 fs
 
 module _ (text : List ℕ) (room : ℕ) (fs : List Frame) (e : framesIn Catalogue text ≡ Ok fs) where
   roomy : Result (List Frame) Refusal → Result (List LiteralSet) Refusal
