@@ -8,31 +8,37 @@ use mathlib.Core.List.{List}
 use lib.Dec.{ltb}
 use lib.ListN.{length, take, drop}
 use Rattle.std.proofs.shelf.Lists.{length-append, take-at}
+use Rattle.std.proofs.shelf.Tests.{le-ltb, ltb-false, cond-true, cond-false, false≢true}
+use Rattle.std.specs.declared.option.Option.the-variants.{Some, None}
 use Rattle.std.specs.declared.result.Result.{Result}
 use Rattle.std.specs.declared.result.Result.the-variants.{Ok, Err}
 use Rattle.tables.specs.declared.row.RuleRow.{RuleRow}
 use Rattle.tables.specs.declared.row.WishRow.{WishRow}
 use Rattle.tables.specs.declared.row.AlternativeRow.{AlternativeRow}
-use Rattle.frames.proofs.DigitLaws.{ok-err, ok-same, err-same}
+use Rattle.frames.specs.AnswerLines.{refusalLine}
+use Rattle.frames.specs.Frames.{wroteIn, writtenIn}
+use Rattle.frames.proofs.DigitLaws.{some-none, some-same, ok-err, ok-same, err-same}
 use Rattle.texts.specs.declared.book_size.BookSize.{BookSize}
 use Rattle.texts.specs.declared.fault.Refusal.{Refusal}
-use Rattle.texts.specs.declared.fault.Fault.the-variants.{TableShort, BufferShort, NoText}
-use Rattle.texts.specs.Reading.{refused, andThen}
+use Rattle.texts.specs.declared.fault.Fault.the-variants.{TableShort, BufferShort, TooLong, NoText}
+use Rattle.texts.specs.Reading.{numberOf, refused, andThen}
 use Rattle.texts.specs.Rows.{Tables, tablesFrom, sizeOf, bookCount, book, readBook, rowsOf, overwritten}
-use Rattle.texts.specs.Writing.{bookText, writableBook, writeText, written}
+use Rattle.texts.specs.Writing.{bookText, writableBook, writeText}
 use Rattle.texts.proofs.RoundTrip.{book-reading, book-writing}
-use Rattle.answer.specs.Answers.{fronts}
+use Rattle.answer.specs.Answers.{longest, shown, answeredIn, answered, fronts}
 
-count-is : (w s : Bool) (text : List ℕ) (count : ℕ) → Ok count ≡ cond w (cond s (refused BufferShort 0) (Ok (length text))) (refused NoText 0) → count ≡ length text
-count-is true false text count e = ok-same e
-count-is true true text count e = absurd (ok-err e)
-count-is false s text count e = absurd (ok-err e)
+-- writable tables are refused only for want of room
+no-room : (w s : Bool) (text : List ℕ) (x : Refusal) → w ≡ true → Err x ≡ cond w (cond s (refused BufferShort 0) (Ok (length text))) (refused NoText 0) → s ≡ true
+no-room true true text x w e = refl
+no-room true false text x w e = absurd (ok-err (sym e))
+no-room false s text x w e = absurd (false≢true w)
 
-pub written-count : (w : Bool) (text : List ℕ) (room count : ℕ) → Ok count ≡ writeText w text room → count ≡ length text
-written-count w text room count e = count-is w (ltb room (length text)) text count e
+module _ (w : Bool) (text out : List ℕ) (x : Refusal) (writable : w ≡ true) (e : Err x ≡ writeText w text (length out)) where
+  pub none-wrote : None ≡ wroteIn text out
+  none-wrote = sym (cond-true _ _ _ (no-room w (ltb (length out) (length text)) text x writable e))
 
-pub front-written : (w : Bool) (text out out′ : List ℕ) (count : ℕ) → Ok count ≡ writeText w text (length out) → out′ ≡ written (Ok count) text out → take count out′ ≡ text
-front-written w text out out′ count e f = let long = written-count w text (length out) count e in ap (take count) f ∙ take-at text (drop count out) count (sym long)
+  pub none-written : out ≡ writtenIn text out
+  none-written = sym (cond-true _ _ _ (no-room w (ltb (length out) (length text)) text x writable e))
 
 -- the first rows, as parts that begin at 0
 abbrev pub parts : BookSize → List RuleRow → List WishRow → List AlternativeRow → Tables
@@ -104,6 +110,28 @@ pub read-none : (r : Result Tables Refusal) (x : Refusal) → Err x ≡ bookCoun
 read-none (Ok t) x e = absurd (ok-err (sym e))
 read-none (Err y) x e = ap Err (err-same (sym e))
 
+-- an answer is no longer than the longest input
+shown-short : (input : List ℕ) (a b c : ℕ) (r : Result Tables Refusal) → length input ≤ longest → readBook input a b c ≡ r → length (shown r) ≤ longest
+shown-short input a b c (Ok t) h e = let long = ap length (again input t (book-of input a b c t e) .1) in omega arith
+shown-short input a b c (Err x) h e = omega arith
+
+short-at : (input : List ℕ) (a b c : ℕ) (d : Bool) → ltb longest (length input) ≡ d → length (cond d (refusalLine (numberOf TooLong) 0) (shown (readBook input a b c))) ≤ longest
+short-at input a b c true d = omega arith
+short-at input a b c false d = shown-short input a b c (readBook input a b c) (ltb-false longest (length input) d) refl
+
+pub answer-short : (a b c : ℕ) (input : List ℕ) → length (answeredIn a b c input) ≤ longest
+answer-short a b c input = short-at input a b c (ltb longest (length input)) refl
+
 -- tables of the lengths that the program gives them
-pub sized : (text : List ℕ) (a b c : ℕ) → a ≡ 512 → b ≡ 64 → c ≡ 512 → readBook text a b c ≡ readBook text 512 64 512
-sized text a b c p q r = ap (λ n. readBook text n b c) p ∙ ap (λ n. readBook text 512 n c) q ∙ ap (readBook text 512 64) r
+pub sized : (input : List ℕ) (a b c : ℕ) → a ≡ 512 → b ≡ 64 → c ≡ 512 → answeredIn a b c input ≡ answered input
+sized input a b c p q r = ap (λ n. answeredIn n b c input) p ∙ ap (λ n. answeredIn 512 n c input) q ∙ ap (λ n. answeredIn 512 64 n input) r
+
+-- a line that there is room for stands at the front of the buffer
+pub front-written : (line out out′ : List ℕ) (count : ℕ) → length line ≤ length out → Some count ≡ wroteIn line out → out′ ≡ writtenIn line out → (count ≤ length out) × (take count out′ ≡ line)
+front-written line out out′ count room e f =
+    let fits = le-ltb (length out) (length line) room in
+    let long : count ≡ length line = some-same (e ∙ cond-false _ _ _ fits) in
+    (omega arith, ap (take count) (f ∙ cond-false _ _ _ fits) ∙ take-at line (drop (length line) out) count (sym long))
+
+pub has-room : (line out : List ℕ) → length line ≤ length out → None ≡ wroteIn line out → ⊥
+has-room line out room e = some-none (sym (e ∙ cond-false _ _ _ (le-ltb (length out) (length line) room)))

@@ -26,9 +26,13 @@ abbrev pub shown : Result Tables Refusal → List ℕ
 shown (Ok t) = bookText t
 shown (Err e) = refusalLine (numberOf (e .fault)) (e .line)
 
--- the input is read as a book into tables of 512 rules, 64 wishes and 512 alternatives; a longer input is refused before all else
+-- the input is read as a book into tables of so many rules, wishes and alternatives; a longer input is refused before all else
+abbrev pub answeredIn : ℕ → ℕ → ℕ → List ℕ → List ℕ
+answeredIn rules wishes alternatives input = cond (ltb longest (length input)) (refusalLine (numberOf TooLong) 0) (shown (readBook input rules wishes alternatives))
+
+-- the program's tables have 512 rules, 64 wishes and 512 alternatives
 abbrev pub answered : List ℕ → List ℕ
-answered input = cond (ltb longest (length input)) (refusalLine (numberOf TooLong) 0) (shown (readBook input 512 64 512))
+answered input = answeredIn 512 64 512 input
 
 -- the first rows of tables
 abbrev pub fronts : BookSize → List RuleRow → List WishRow → List AlternativeRow → Tables

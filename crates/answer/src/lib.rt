@@ -2,13 +2,14 @@
 ghost use mathlib.Core.Bool.{true};
 ghost use mathlib.Core.Path.{_≡_};
 ghost use Prim.Native.Nat.{_≤_};
-ghost use lib.ListN.{length, take};
+ghost use lib.ListN.{length};
 ghost use Rattle.std.specs.Of.Vec.{vec-items};
 ghost use Rattle.std.specs.Vec.{made};
 ghost use Rattle.frames.specs.AnswerLines.{refusalLine};
+ghost use Rattle.frames.specs.Frames.{wroteIn, writtenIn};
 ghost use Rattle.texts.specs.Reading.{numberOf};
 ghost use Rattle.texts.specs.Writing.{writableBook, bookText};
-ghost use Rattle.answer.specs.Answers.{longest, answered, fronts};
+ghost use Rattle.answer.specs.Answers.{longest, answeredIn, answered, fronts};
 use frames::write_refusal;
 use std::alloc::AllocError;
 use std::alloc::Global;
@@ -31,33 +32,28 @@ const WISHES: usize = 64;
 
 const ALTERNATIVES: usize = 512;
 
-// Writes the line of a refusal at the front of a buffer; its length.
-fn refuse(refusal: Refusal, out: &mut [u8]) -> usize
-    requires { ⌜ longest ≤ length (now out) ⌝ }
-    ensures within { λ r. ⌜ r ≤ length (now (out .entry)) ⌝ }
-    ensures bytes { λ r. ⌜ take r (now (out .exit)) ≡ refusalLine (numberOf (refusal .fault)) (refusal .line) ⌝ }
+// Writes the line of a refusal at the front of a buffer; its length, where there is room.
+fn refuse(refusal: Refusal, out: &mut [u8]) -> Option<usize>
+    ensures result { λ r. ⌜ r ≡ wroteIn (refusalLine (numberOf (refusal .fault)) (refusal .line)) (now (out .entry)) ⌝ }
+    ensures buffer { λ _. ⌜ now (out .exit) ≡ writtenIn (refusalLine (numberOf (refusal .fault)) (refusal .line)) (now (out .entry)) ⌝ }
 {
-    match write_refusal(refusal.number(), refusal.line, out) {
-        Ok(count) => count,
-        Err(_) => 0,
-    }
+    write_refusal(refusal.number(), refusal.line, out).ok()
 }
 
-// Writes the text of the first rows of tables at the front of a buffer; its length.
+// Writes the text of the first rows of tables at the front of a buffer; its length, where there is room.
 fn write_fronts(
     rules: &[RuleRow],
     wishes: &[WishRow],
     alternatives: &[AlternativeRow],
     size: BookSize,
     out: &mut [u8],
-) -> usize
+) -> Option<usize>
     requires rules { ⌜ size .rules ≤ length (now rules) ⌝ }
     requires wishes { ⌜ size .wishes ≤ length (now wishes) ⌝ }
     requires alternatives { ⌜ size .alternatives ≤ length (now alternatives) ⌝ }
     requires writable { ⌜ writableBook (fronts size (now rules) (now wishes) (now alternatives)) ≡ true ⌝ }
-    requires room { ⌜ length (bookText (fronts size (now rules) (now wishes) (now alternatives))) ≤ length (now out) ⌝ }
-    ensures within { λ r. ⌜ r ≤ length (now (out .entry)) ⌝ }
-    ensures bytes { λ r. ⌜ take r (now (out .exit)) ≡ bookText (fronts size (now (rules .entry)) (now (wishes .entry)) (now (alternatives .entry))) ⌝ }
+    ensures result { λ r. ⌜ r ≡ wroteIn (bookText (fronts size (now (rules .entry)) (now (wishes .entry)) (now (alternatives .entry)))) (now (out .entry)) ⌝ }
+    ensures buffer { λ _. ⌜ now (out .exit) ≡ writtenIn (bookText (fronts size (now (rules .entry)) (now (wishes .entry)) (now (alternatives .entry)))) (now (out .entry)) ⌝ }
 {
     let rule_count = size.rules;
     let wish_count = size.wishes;
@@ -68,25 +64,22 @@ fn write_fronts(
         &alternatives[0..alternative_count],
         out,
     ) {
-        Ok(count) => count,
-        Err(_) => 0,
+        Ok(count) => Some(count),
+        Err(_) => None,
     }
 }
 
-// Writes the answer at the front of a buffer, by means of these tables; its length.
-fn answer_into(
+// Writes the answer to an input at the front of a buffer, by means of these tables; its length. Where there is no room for it,
+// there is none, and the buffer is as it was.
+pub fn answer_into(
     input: &[u8],
     rules: &mut [RuleRow],
     wishes: &mut [WishRow],
     alternatives: &mut [AlternativeRow],
     out: &mut [u8],
-) -> usize
-    requires rules { ⌜ length (now rules) ≡ 512 ⌝ }
-    requires wishes { ⌜ length (now wishes) ≡ 64 ⌝ }
-    requires alternatives { ⌜ length (now alternatives) ≡ 512 ⌝ }
-    requires room { ⌜ longest ≤ length (now out) ⌝ }
-    ensures within { λ r. ⌜ r ≤ length (now (out .entry)) ⌝ }
-    ensures bytes { λ r. ⌜ take r (now (out .exit)) ≡ answered (now (input .entry)) ⌝ }
+) -> Option<usize>
+    ensures result { λ r. ⌜ r ≡ wroteIn (answeredIn (length (now (rules .entry))) (length (now (wishes .entry))) (length (now (alternatives .entry))) (now (input .entry))) (now (out .entry)) ⌝ }
+    ensures buffer { λ _. ⌜ now (out .exit) ≡ writtenIn (answeredIn (length (now (rules .entry))) (length (now (wishes .entry))) (length (now (alternatives .entry))) (now (input .entry))) (now (out .entry)) ⌝ }
 {
     if input.len() > LONGEST {
         return refuse(
@@ -119,8 +112,10 @@ fn answer_in(
     requires room { ⌜ longest ≤ length (now out) ⌝ }
     ensures { λ r. ⌜ made r (λ v. vec-items v ≡ answered (now (input .entry))) ⌝ }
 {
-    let count = answer_into(input, rules, wishes, alternatives, out);
     let mut bytes = Vec::new(heap);
+    let Some(count) = answer_into(input, rules, wishes, alternatives, out) else {
+        return Ok(bytes);
+    };
     bytes.extend_from_slice(&out[0..count])?;
     Ok(bytes)
 }
