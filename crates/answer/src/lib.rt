@@ -1,4 +1,6 @@
 // From the bytes of a book text to the bytes of the answer: what the program does, on values.
+#![tactic(auto)]
+
 ghost use Rattle.std.specs.Prelude.{◌≡◌, ◌≤◌, true, length, IfOk};
 ghost use Rattle.frames.specs.AnswerLines.{refusal_line};
 ghost use Rattle.frames.specs.Frames.{wrote_in, written_in};

@@ -1,4 +1,6 @@
 // Answer sets of tables of rules: which sets they are, and the least set by which they are told.
+#![tactic(auto)]
+
 mod answer_set;
 mod closing;
 mod rules;

@@ -1,4 +1,6 @@
 // Reads a book text from standard input and writes the answer to standard output.
+#![tactic(auto)]
+
 use answer::{LONGEST, answer};
 use std::io;
 use std::io::Read;

@@ -1,4 +1,6 @@
 // How many answer sets a table of rules leaves room for.
+#![tactic(auto)]
+
 mod decisive;
 #[cfg(test)]
 mod tests;

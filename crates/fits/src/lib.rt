@@ -1,5 +1,7 @@
 // Sources of fits, filters and orders: what a session asks of them, and all that it may rest on. And catalogues, the simplest
 // source.
+#![tactic(auto)]
+
 mod catalogue;
 mod filter;
 mod order;

@@ -15,7 +15,7 @@ pub trait Source {
 
     // The same among the fits that pass. A source that can rule out many fits at once has a body of its own.
     fn next_passing<F: Filter>(&self, picks: Picks, after: Option<Fit>, filter: &F) -> Option<Fit>
-        ensures { First (NextPassing (lawful self.now) (passing filter.now) picks after) result }
+        ensures { First (NextPassing (lawful self.now) (F.passing filter.now) picks after) result }
     {
         let mut from = after;
         while let Some(fit) = self.next(picks, from) {

@@ -1,4 +1,6 @@
 // Frames: lines of hexadecimal digits, one frame a line.
+#![tactic(auto)]
+
 mod answer_frames;
 mod frame;
 mod hex;

@@ -1,4 +1,6 @@
 // Sets of literals as pairs of 64-bit words, and conditions on them.
+#![tactic(auto)]
+
 mod condition;
 mod literal;
 mod literal_set;

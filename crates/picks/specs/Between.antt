@@ -39,16 +39,22 @@ abbrev pub FirstOpen : Bounds → Option Literal → Type 0
 FirstOpen b None = b.upper ⊑ b.lower
 FirstOpen b (Some k) = FirstOpenAt b (named k.code)
 
--- the lower bound has k too; so between n lies what lies between b and has k
+-- between n lies what lies between b and has k
 pub record Including (b : Bounds) (k : Lit) (n : Bounds) : Type 0 where
-  pub low : Added b.lower k n.lower
-  pub high : n.upper ≡ b.upper
   pub to : (s : LiteralSet) → Between b s → In s k → Between n s
   pub from : (s : LiteralSet) → Between n s → Between b s × In s k
 
--- the upper bound has lost k; so between n lies what lies between b and lacks k
+-- between n lies what lies between b and lacks k
 pub record Excluding (b : Bounds) (k : Lit) (n : Bounds) : Type 0 where
-  pub low : n.lower ≡ b.lower
-  pub high : Removed b.upper k n.upper
   pub to : (s : LiteralSet) → Between b s → (In s k → ⊥) → Between n s
   pub from : (s : LiteralSet) → Between n s → Between b s × (In s k → ⊥)
+
+-- the lower bound has k too, and the upper one is as it was
+pub record RaisesLower (b : Bounds) (k : Lit) (n : Bounds) : Type 0 where
+  pub low : Added b.lower k n.lower
+  pub high : n.upper ≡ b.upper
+
+-- the upper bound has lost k, and the lower one is as it was
+pub record CutsUpper (b : Bounds) (k : Lit) (n : Bounds) : Type 0 where
+  pub low : n.lower ≡ b.lower
+  pub high : Removed b.upper k n.upper

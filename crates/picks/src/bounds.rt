@@ -1,6 +1,6 @@
 // Bounds of sets: what is surely in, and what may be in.
 ghost use Rattle.std.specs.Prelude.{◌≡◌, true, Decides};
-ghost use Rattle.picks.specs.Between.{Between, BoundsOf, FirstOpen, Including, Excluding};
+ghost use Rattle.picks.specs.Between.{Between, BoundsOf, FirstOpen, Including, Excluding, RaisesLower, CutsUpper};
 ghost use Rattle.literals.specs.Sets.{◌⊑◌, Difference, named};
 ghost use Rattle.literals.specs.declared.literal_set.LiteralSet.{LiteralSet as ASet};
 
@@ -65,7 +65,8 @@ impl Bounds {
 
     // The bounds of the sets between these that have the literal.
     pub fn include(self, literal: Literal) -> Bounds
-        ensures { Including self (named literal.code) result }
+        ensures between { Including self (named literal.code) result }
+        ensures bounds { RaisesLower self (named literal.code) result }
     {
         Bounds {
             lower: self.lower.with(literal),
@@ -75,7 +76,8 @@ impl Bounds {
 
     // The bounds of the sets between these that lack the literal.
     pub fn exclude(self, literal: Literal) -> Bounds
-        ensures { Excluding self (named literal.code) result }
+        ensures between { Excluding self (named literal.code) result }
+        ensures bounds { CutsUpper self (named literal.code) result }
     {
         Bounds {
             lower: self.lower,

@@ -1,4 +1,6 @@
 // Fits, the picks that they may have to keep, and the bounds between which they lie.
+#![tactic(auto)]
+
 mod bounds;
 mod fit;
 mod picks;

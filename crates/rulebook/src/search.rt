@@ -14,7 +14,7 @@ use tables::RuleRow;
 
 // The fit of the set, if it is an answer set that passes.
 fn suiting<F: Filter>(rows: &[RuleRow], filter: &F, set: LiteralSet) -> Option<Fit>
-    ensures { First (SuitsAt (rules_of rows.now) (passing filter.now) set) result }
+    ensures { First (SuitsAt (rules_of rows.now) (F.passing filter.now) set) result }
 {
     let Ok(fit) = Fit::new(set) else {
         return None;
@@ -31,7 +31,7 @@ fn suiting<F: Filter>(rows: &[RuleRow], filter: &F, set: LiteralSet) -> Option<F
 
 // The first answer set between the bounds that passes.
 fn settle<F: Filter>(rows: &[RuleRow], filter: &F, bounds: Bounds) -> Option<Fit>
-    ensures { First (SuitsBetween (rules_of rows.now) (passing filter.now) bounds) result }
+    ensures { First (SuitsBetween (rules_of rows.now) (F.passing filter.now) bounds) result }
 {
     let n = narrow(rows, bounds)?;
     if filter.is_hopeless(n) {
@@ -61,7 +61,7 @@ fn doubtful(given: Fit, bounds: Bounds) -> LiteralSet
 // propagation, and on the way back it searches, from the lowest literal up, what agrees with the fit above a literal and has
 // that literal while the fit has not.
 fn settle_after<F: Filter>(rows: &[RuleRow], filter: &F, given: Fit, bounds: Bounds) -> Option<Fit>
-    ensures { First (SuitsAfter (rules_of rows.now) (passing filter.now) given bounds) result }
+    ensures { First (SuitsAfter (rules_of rows.now) (F.passing filter.now) given bounds) result }
 {
     let literal = doubtful(given, bounds).highest()?;
     if given.literals().has(literal) {
@@ -80,7 +80,7 @@ pub(crate) fn first_after<F: Filter>(
     picks: Picks,
     after: Option<Fit>,
 ) -> Option<Fit>
-    ensures { First (NextPassing (λ f. AnswerSet (rules_of rows.now) f.literals) (passing filter.now) picks after) result }
+    ensures { First (NextPassing (λ f. AnswerSet (rules_of rows.now) f.literals) (F.passing filter.now) picks after) result }
 {
     let bounds = Bounds::of(picks);
     let Some(given) = after else {

@@ -47,9 +47,9 @@ impl PenaltyRow {
 
 // That fillers make no record, and behind the other rows of a table change nothing.
 pub fn fillers_are_idle()
-    ensures* rules { do ⌜ Idle rule_of (← (⟦RuleRow::FILLER⟧).exit) ⌝ }
-    ensures* wishes { do ⌜ wish_of (← (⟦WishRow::FILLER⟧).exit) ≡ None ⌝ }
-    ensures* alternatives { do ⌜ Idle alternative_of (← (⟦AlternativeRow::FILLER⟧).exit) ⌝ }
-    ensures* penalties { do ⌜ Idle penalty_of (← (⟦PenaltyRow::FILLER⟧).exit) ⌝ }
+    ensures rules { Idle rule_of RuleRow.FILLER }
+    ensures wishes { wish_of WishRow.FILLER ≡ None }
+    ensures alternatives { Idle alternative_of AlternativeRow.FILLER }
+    ensures penalties { Idle penalty_of PenaltyRow.FILLER }
     ensures fits { makes_fit FIT_FILLER ≡ false }
 {}

@@ -1,4 +1,6 @@
 // Tables: rows of plain numbers, and the records that valid rows make.
+#![tactic(auto)]
+
 mod filler;
 mod making;
 mod records;

@@ -5,6 +5,8 @@
 //   write-book ROOM ROWS                   writes the text of these rows to a buffer of so many bytes
 //   write-catalogue ROOM ROWS              the same for fits
 //   row ROOM COLUMNS, more ROOM, refusal ROOM NUMBER LINE    write a line of an answer
+#![tactic(auto)]
+
 mod buffer;
 mod case;
 mod reading;

@@ -48,7 +48,7 @@ impl Row for AlternativeRow {
 
 // Whether each row makes a record.
 pub(crate) fn all_make_records<R: Row + Copy>(rows: &[R]) -> bool
-    ensures { result ≡ each makes rows.now }
+    ensures { result ≡ each R.makes rows.now }
 {
     for row in rows {
         if !row.makes_record() {

@@ -1,4 +1,6 @@
 // Whole texts of frames: catalogues of fits and rule books, read into a caller's tables and written from them.
+#![tactic(auto)]
+
 mod book;
 mod book_size;
 mod catalogue;

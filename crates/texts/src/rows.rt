@@ -90,8 +90,8 @@ fn put<R: Copy>(table: &mut [R], count: usize, row: Option<R>) -> usize
 
 // Writes the rows that an accepted text gives at the front of a table.
 pub(crate) fn fill<R: FrameRow + Copy>(kind: TextKind, text: &[u8], table: &mut [R])
-    requires { (fs : List Frame) × (frames_in kind text.now ≡ Ok fs) × (length (rows_in given fs) ≤ length table.old) }
-    ensures { (fs : List Frame) → frames_in kind text.now ≡ Ok fs → table.new ≡ overwritten (rows_in given fs) table.old }
+    requires { (fs : List Frame) × (frames_in kind text.now ≡ Ok fs) × (length (rows_in R.given fs) ≤ length table.old) }
+    ensures { (fs : List Frame) → frames_in kind text.now ≡ Ok fs → table.new ≡ overwritten (rows_in R.given fs) table.old }
 {
     let mut rest = text;
     let mut seen = Seen::start();

@@ -19,7 +19,7 @@ struct TextSize {
 
 // The size of the text of frames, the end frame included; none where no text can hold them.
 fn measure<F: FrameSource + Copy>(frames: F) -> Option<TextSize>
-    ensures { MatchOption result (holdable (left frames) ≡ false) (λ s. (holdable (left frames) ≡ true) × (s.bytes ≡ length (text_of (ending (left frames)))) × (s.frames ≡ length (left frames))) }
+    ensures { MatchOption result (holdable (F.left frames) ≡ false) (λ s. (holdable (F.left frames) ≡ true) × (s.bytes ≡ length (text_of (ending (F.left frames)))) × (s.frames ≡ length (F.left frames))) }
 {
     let mut source = frames;
     let mut bytes = END_LINE;
@@ -39,9 +39,9 @@ fn measure<F: FrameSource + Copy>(frames: F) -> Option<TextSize>
 
 // Writes the lines of frames at the front of a buffer, each into the tail behind the line before; how many bytes they have.
 fn write_lines<F: FrameSource + Copy>(frames: F, out: &mut [u8]) -> usize
-    requires { length (text_of (left frames)) ≤ length out.old }
-    ensures number { result ≡ length (text_of (left frames)) }
-    ensures buffer { out.new ≡ text_of (left frames) ++ drop (length (text_of (left frames))) out.old }
+    requires { length (text_of (F.left frames)) ≤ length out.old }
+    ensures number { result ≡ length (text_of (F.left frames)) }
+    ensures buffer { out.new ≡ text_of (F.left frames) ++ drop (length (text_of (F.left frames))) out.old }
 {
     let mut source = frames;
     let mut at = 0;
@@ -56,8 +56,8 @@ fn write_lines<F: FrameSource + Copy>(frames: F, out: &mut [u8]) -> usize
 
 // Writes the text of frames, the end frame included, at the front of a buffer; how many bytes it has. A refusal leaves the buffer as it was.
 pub(crate) fn write_text<F: FrameSource + Copy>(frames: F, out: &mut [u8]) -> Result<usize, Refusal>
-    ensures result { result ≡ write_text (holdable (left frames)) (text_of (ending (left frames))) (length out.old) }
-    ensures buffer { out.new ≡ written result (text_of (ending (left frames))) out.old }
+    ensures result { result ≡ write_text (holdable (F.left frames)) (text_of (ending (F.left frames))) (length out.old) }
+    ensures buffer { out.new ≡ written result (text_of (ending (F.left frames))) out.old }
 {
     let Some(size) = measure(frames) else {
         return Err(Refusal {

@@ -14,11 +14,11 @@ loop-row-preserved c =
     let set = c.args.set in
     let inside = c.loop-row-test.true in
     let closed_by : LiteralSet → RuleRow → Type 0 = λ x. OfRow (ClosedBy c.args.against c.args.chosen x) in (
-      λ l h. c.step-row-got.ensures.grown l (c.loop-row.invariant.0 l h),
-      λ y all s. c.step-row-got.ensures.least y (row_at (closed_by y) rows i _ inside all) (c.loop-row.invariant.1 y all s),
+      λ l h. c.step_row-got.ensures.grown l (c.loop-row.invariant.0 l h),
+      λ y all s. c.step_row-got.ensures.least y (row_at (closed_by y) rows i _ inside all) (c.loop-row.invariant.1 y all s),
       λ s. row_more (closed_by set) rows i _ inside
-          (c.loop-row.invariant.2 (λ l h. s l (c.step-row-got.ensures.grown l h)))
-          (c.step-row-got.ensures.closed set c.loop-row.invariant.0 s),
+          (c.loop-row.invariant.2 (λ l h. s l (c.step_row-got.ensures.grown l h)))
+          (c.step_row-got.ensures.closed set c.loop-row.invariant.0 s),
     )
 
 pub returns : goal.returns

@@ -8,15 +8,15 @@ loop-reached-smaller c =
     omega (
       arith,
       size_more c.loop-reached.reached c.grow-next.result c.grow-next.ensures.grown
-          (not_from_Decides _ c.is-subset.ensures c.if-is-subset.false),
+          (not_from_Decides _ c.is_subset.ensures c.if-is_subset.false),
       size_le c.grow-next.result (omega arith) (omega arith),
     )
 
 pub loop-reached-preserved : goal.loop-reached-preserved
 loop-reached-preserved c y all = c.grow-next.ensures.least y all (c.loop-reached.invariant y all)
 
-pub returns-then-is-subset : goal.returns-then-is-subset
-returns-then-is-subset c = record {
-  closed = c.grow-next.ensures.closed (c.is-subset.ensures.0 c.if-is-subset.true);
+pub returns-then-is_subset : goal.returns-then-is_subset
+returns-then-is_subset c = record {
+  closed = c.grow-next.ensures.closed (c.is_subset.ensures.0 c.if-is_subset.true);
   least = c.loop-reached.invariant;
 }

@@ -11,14 +11,14 @@ loop-column-init c =
     let n = length c.args.columns.now in
     (head_first (49 ∷ n ∷ []) c.args.body.now _ (two_first c.args.body.now 49 n (omega (arith, c.requires.room))), refl)
 
-pub overflow-cast-column : goal.overflow-cast-column
-overflow-cast-column c =
+pub overflow_cast-column : goal.overflow_cast-column
+overflow_cast-column c =
     let small = small_column c.args.columns.now c.requires.narrow c.loop-column.column-index (omega arith) in search rules
 
 pub loop-column-preserved : goal.loop-column-preserved
 loop-column-preserved c = (
-  chunk_more 2 (49 ∷ length c.args.columns.now ∷ []) c.args.columns.now _ c.loop-column.body c.loop-column.column-index c.loop-column.at c.loop-column.invariant.0 c.loop-column.invariant.1 c.copy-from-slice.new.self (omega arith)
-      (c.copy-from-slice.ensures.after ∙ be_pair (get_or c.args.columns.now c.loop-column.column-index 0) c.to-be-bytes.result c.to-be-bytes.ensures),
+  chunk_more 2 (49 ∷ length c.args.columns.now ∷ []) c.args.columns.now _ c.loop-column.body c.loop-column.column-index c.loop-column.at c.loop-column.invariant.0 c.loop-column.invariant.1 c.copy_from_slice.new.self (omega arith)
+      (c.copy_from_slice.ensures.after ∙ be_pair (get_or c.args.columns.now c.loop-column.column-index 0) c.to_be_bytes.result c.to_be_bytes.ensures),
   omega (arith, c.loop-column.invariant.1),
 )
 

@@ -9,8 +9,8 @@ returns c =
     let columns = c.args.columns.now in
     let head = 49 ∷ length columns ∷ [] in
     let out = c.args.out.now in
-    let front = filled_front (head ++ flat_map (word_bytes 2) columns) c.fill-row.new.body _ (2 + 2 * length columns) c.fill-row.ensures (body_long 2 head columns) in
+    let front = filled_front (head ++ flat_map (word_bytes 2) columns) c.fill_row.new.body _ (2 + 2 * length columns) c.fill_row.ensures (body_long 2 head columns) in
     record {
-      result = c.write-line.ensures.result ∙ ap (λ b. wrote_in (line_with (sealed b)) out) front;
-      buffer = c.write-line.ensures.buffer ∙ ap (λ b. written_in (line_with (sealed b)) out) front;
+      result = c.write_line.ensures.result ∙ ap (λ b. wrote_in (line_with (sealed b)) out) front;
+      buffer = c.write_line.ensures.buffer ∙ ap (λ b. written_in (line_with (sealed b)) out) front;
     }

@@ -9,7 +9,7 @@ returns-then-more-lt2 c =
     let rest = c.loop-rest.rest.now in
     let two : 2 ≤ length rest = search rules in
     let last : length rest - 2 < 2 = rw (take_rest rest 2, length-drop 2 rest) at c.if-more-lt2.true in
-    rw (c.digit-value.ensures.value, c.digit-value-in-len2-up.ensures.value)
+    rw (c.digit_value.ensures.value, c.digit_value-in-len2-up.ensures.value)
     (sym (c.loop-rest.invariant.1 ∙ checked_last rest c.loop-rest.sum two last c.loop-rest.invariant.0))
 
 pub loop-rest-preserved : goal.loop-rest-preserved
@@ -17,5 +17,5 @@ loop-rest-preserved c =
     let rest = c.loop-rest.rest.now in
     let two : 2 ≤ length rest = search rules in
     let more : 2 ≤ length rest - 2 = rw (take_rest rest 2, length-drop 2 rest) at c.if-more-lt2.false in
-    rw (take_rest rest 2, c.digit-value.ensures.value, c.digit-value-in-len2-up.ensures.value)
+    rw (take_rest rest 2, c.digit_value.ensures.value, c.digit_value-in-len2-up.ensures.value)
     (omega arith, c.loop-rest.invariant.1 ∙ checked_more rest c.loop-rest.sum two more, digits_front rest two c.loop-rest.invariant.2)

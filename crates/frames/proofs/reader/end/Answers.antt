@@ -5,4 +5,4 @@ use Rattle.frames.proofs.reader.end.Goals as goal
 pub returns : goal.returns
 returns c =
     let two : length c.args.fields.now ≡ 2 = search rules in
-    end_ok c.args.fields.now c.from-be-bytes.result two c.from-be-bytes.ensures
+    end_ok c.args.fields.now c.from_be_bytes.result two c.from_be_bytes.ensures

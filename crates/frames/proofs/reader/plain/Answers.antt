@@ -5,4 +5,4 @@ use Rattle.frames.proofs.reader.plain.Goals as goal
 pub returns : goal.returns
 returns c =
     let one : 1 ≤ length c.args.fields.now = search rules in
-    plain_at c.args.fields.now (Some c.in-ok-body.body) one c.in-ok-body.ensures
+    plain_at c.args.fields.now (Some c.in_ok-body.body) one c.in_ok-body.ensures

@@ -10,8 +10,8 @@ returns c =
     let words = c.args.words.now in
     let out = c.args.out.now in
     let body = head ++ flat_map (word_bytes 8) words in
-    let front = filled_front body c.fill-body.new.body _ (length head + 8 * length words) c.fill-body.ensures (body_long 8 head words) in
+    let front = filled_front body c.fill_body.new.body _ (length head + 8 * length words) c.fill_body.ensures (body_long 8 head words) in
     record {
-      result = c.write-line.ensures.result ∙ ap (λ b. wrote_in (line_with (sealed b)) out) front;
-      buffer = c.write-line.ensures.buffer ∙ ap (λ b. written_in (line_with (sealed b)) out) front;
+      result = c.write_line.ensures.result ∙ ap (λ b. wrote_in (line_with (sealed b)) out) front;
+      buffer = c.write_line.ensures.buffer ∙ ap (λ b. written_in (line_with (sealed b)) out) front;
     }

@@ -22,8 +22,8 @@ returns c =
     record {
       result = ap (λ n. Some n) (sym long) ∙ room_result line out room;
       buffer =
-          line_written body out c.hex.new.out c.hex-2.new.out c.check-byte.result (2 * length body) refl c.if-out-count.false c.hex.ensures c.hex-2.ensures
-          ∙ ap (λ k. (hex_of (body ++ k ∷ []) ++ 10 ∷ []) ++ drop (2 * length body + 3) out) c.check-byte.ensures
+          line_written body out c.hex.new.out c.hex-2.new.out c.check_byte.result (2 * length body) refl c.if-out-count.false c.hex.ensures c.hex-2.ensures
+          ∙ ap (λ k. (hex_of (body ++ k ∷ []) ++ 10 ∷ []) ++ drop (2 * length body + 3) out) c.check_byte.ensures
           ∙ ap (λ k. line ++ drop k out) (sym long)
           ∙ room_buffer line out room;
     }

@@ -18,17 +18,17 @@ last_of a b c d e h =
 pub returns : goal.returns
 returns c =
     let t = tables_from c.args.rules.now c.args.wishes.now c.args.alternatives.now in
-    let sound = sym c.are-sound.ensures ∙ c.if-not-are-sound.false in
+    let sound = sym c.are_sound.ensures ∙ c.if-not-are_sound.false in
     let same = all_left t in
     let can : holdable (book_frames t) ≡ writable_book t =
     last_of (each makes_rule t.rules) (each makes_wish t.wishes) (each makes_alternative t.alternatives) (orderly t.wishes t.alternatives) (holdable (book_frames t)) sound in
     record {
-      result = c.write-text.ensures.result ∙ ap (λ fs. write_text (holdable fs) (text_of (ending fs)) (length c.args.out.now)) same ∙ ap (λ b. write_text b (text_of (ending (book_frames t))) (length c.args.out.now)) can;
+      result = c.write_text.ensures.result ∙ ap (λ fs. write_text (holdable fs) (text_of (ending fs)) (length c.args.out.now)) same ∙ ap (λ b. write_text b (text_of (ending (book_frames t))) (length c.args.out.now)) can;
       meaning = book_writing t;
-      buffer = c.write-text.ensures.buffer ∙ ap (λ fs. written c.write-text.result (text_of (ending fs)) c.args.out.now) same;
+      buffer = c.write_text.ensures.buffer ∙ ap (λ fs. written c.write_text.result (text_of (ending fs)) c.args.out.now) same;
     }
 
-pub returns-then-not-are-sound : goal.returns-then-not-are-sound
-returns-then-not-are-sound c =
+pub returns-then-not-are_sound : goal.returns-then-not-are_sound
+returns-then-not-are_sound c =
     let t = tables_from c.args.rules.now c.args.wishes.now c.args.alternatives.now in
     record { result = search rules; meaning = book_writing t; buffer = refl }

@@ -6,17 +6,17 @@ use Rattle.texts.proofs.catalogue.read_catalogue.Goals as goal
 
 pub returns-then-seen-table : goal.returns-then-seen-table
 returns-then-seen-table c =
-    let (fs, ok, seen) = c.in-ok-seen.ensures in
+    let (fs, ok, seen) = c.in_ok-seen.ensures in
     let short = catalogue_short c.args.text.now (length c.args.table.now) fs ok (omega (arith, fit_count fs, ap (λ s. s.fits) seen)) in
     record { result = sym (ap row_count short); meaning = catalogue_reading c.args.text.now; table = sym (ap (λ r. overwritten (rows_of (λ rows. rows) r) c.args.table.now) short) }
 
 pub fill-requires : goal.fill-requires
 fill-requires c =
-    let (fs, ok, seen) = c.in-ok-seen.ensures in (fs, ok, omega (arith, fit_count fs, ap (λ s. s.fits) seen))
+    let (fs, ok, seen) = c.in_ok-seen.ensures in (fs, ok, omega (arith, fit_count fs, ap (λ s. s.fits) seen))
 
 pub returns : goal.returns
 returns c =
-    let (fs, ok, seen) = c.in-ok-seen.ensures in
+    let (fs, ok, seen) = c.in_ok-seen.ensures in
     let read = catalogue_read c.args.text.now (length c.args.table.now) fs ok (omega (arith, fit_count fs, ap (λ s. s.fits) seen)) in
     record {
       result = ap Ok (ap (λ s. s.fits) seen ∙ sym (fit_count fs)) ∙ sym (ap row_count read);
@@ -24,5 +24,5 @@ returns c =
       table = c.fill.ensures fs ok ∙ sym (ap (λ r. overwritten (rows_of (λ rows. rows) r) c.args.table.now) read);
     }
 
-pub returns-in-err-seen : goal.returns-in-err-seen
-returns-in-err-seen c = record { result = search rules; meaning = catalogue_reading c.args.text.now; table = search rules }
+pub returns-in_err-seen : goal.returns-in_err-seen
+returns-in_err-seen c = record { result = search rules; meaning = catalogue_reading c.args.text.now; table = search rules }

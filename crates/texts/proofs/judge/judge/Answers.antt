@@ -30,17 +30,17 @@ loop-rest-preserved c =
 pub returns-in-Err : goal.returns-in-Err
 returns-in-Err c =
     let (fs, seen, long, rest) = c.loop-rest.invariant in
-    let some : 0 < length c.loop-rest.rest.now = nonempty (length c.loop-rest.rest.now) c.is-empty.result c.is-empty.ensures c.loop-rest-test.true in
+    let some : 0 < length c.loop-rest.rest.now = nonempty (length c.loop-rest.rest.now) c.is_empty.result c.is_empty.ensures c.loop-rest-test.true in
     rest ∙ step_refused c.args.kind fs c.loop-rest.rest.now c.in-Err.fault some (c.in-Err.ensures fs seen) ∙ ap (λ k. refused c.in-Err.fault (k + 1)) (sym (ap (λ s. s.frames) seen))
 
 pub returns-then-seen : goal.returns-then-seen
 returns-then-seen c =
     let (fs, seen, long, rest) = c.loop-rest.invariant in
-    let none = empty (length c.loop-rest.rest.now) c.is-empty.result c.is-empty.ensures c.loop-rest-test.false in
+    let none = empty (length c.loop-rest.rest.now) c.is_empty.result c.is_empty.ensures c.loop-rest-test.false in
     (fs, rest ∙ read_end c.args.kind fs c.loop-rest.rest.now none ∙ cond-true _ _ _ (sym (ap (λ s. s.ended) seen) ∙ c.if-seen.true), seen)
 
 pub returns : goal.returns
 returns c =
     let (fs, seen, long, rest) = c.loop-rest.invariant in
-    let none = empty (length c.loop-rest.rest.now) c.is-empty.result c.is-empty.ensures c.loop-rest-test.false in
+    let none = empty (length c.loop-rest.rest.now) c.is_empty.result c.is_empty.ensures c.loop-rest-test.false in
     rest ∙ read_end c.args.kind fs c.loop-rest.rest.now none ∙ cond-false _ _ _ (sym (ap (λ s. s.ended) seen) ∙ c.if-seen.false) ∙ ap (λ k. refused Place (k + 1)) (sym (ap (λ s. s.frames) seen))

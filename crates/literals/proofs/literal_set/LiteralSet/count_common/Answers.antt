@@ -3,8 +3,8 @@ use Rattle.std.proofs.lemmas.Nat.{ones-le, and_le_l}
 use lib.Bits.{bit_and}
 use Rattle.literals.proofs.literal_set.LiteralSet.count_common.Goals as goal
 
-pub overflow-add-result : goal.overflow-add-result
-overflow-add-result c =
+pub overflow_add-result : goal.overflow_add-result
+overflow_add-result c =
     omega (
       arith,
       ones-le 64 (bit_and c.args.self.plus c.args.other.plus) (omega (arith, and_le_l c.args.self.plus c.args.other.plus)),

@@ -5,7 +5,7 @@ use Rattle.picks.proofs.bounds.Bounds.are_crossed.Goals as goal
 pub returns : goal.returns
 returns c =
     let b = c.args.self in
-    let crossed = Decides-not _ c.is-subset.ensures in
+    let crossed = Decides-not _ c.is_subset.ensures in
     record {
       crossed = crossed;
       nothing = Decides-like _ (λ n s w. n (between_sub b s w)) (λ n w. n b.lower (lower_between b w)) crossed;

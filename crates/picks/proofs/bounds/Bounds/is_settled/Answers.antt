@@ -3,6 +3,6 @@ use Rattle.picks.proofs.bounds.Bounds.is_settled.Goals as goal
 
 pub returns : goal.returns
 returns c = record {
-  settled = c.is-subset.ensures;
-  one = λ e. settled_one c.args.self (c.is-subset.ensures.0 e);
+  settled = c.is_subset.ensures;
+  one = λ e. settled_one c.args.self (c.is_subset.ensures.0 e);
 }

@@ -6,6 +6,6 @@ use Rattle.picks.proofs.fit.Fit.is_same.Goals as goal
 
 pub returns : goal.returns
 returns c = record {
-  same = Decides-like _ (known_by_literals c.args.self c.args.other) (ap (λ (f : Fit). f.literals)) c.is-same.ensures;
+  same = Decides-like _ (known_by_literals c.args.self c.args.other) (ap (λ (f : Fit). f.literals)) c.is_same.ensures;
   known = (known_by_literals, known_by_place);
 }

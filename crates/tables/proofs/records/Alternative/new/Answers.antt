@@ -8,5 +8,5 @@ pub returns : goal.returns
 returns c =
     record {
       made = accepted makes_alternative alternative_of alternative_row alternative_faithful c.args.row _ refl;
-      judged = (sym c.if-not-makes-alternative.ensures, refl);
+      judged = (sym c.if-not-makes_alternative.ensures, refl);
     }

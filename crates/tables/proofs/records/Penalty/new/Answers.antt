@@ -8,5 +8,5 @@ pub returns : goal.returns
 returns c =
     record {
       made = accepted makes_penalty penalty_of penalty_row penalty_faithful c.args.row _ refl;
-      judged = (sym c.if-not-makes-penalty.ensures, refl);
+      judged = (sym c.if-not-makes_penalty.ensures, refl);
     }

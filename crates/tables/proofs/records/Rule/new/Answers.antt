@@ -20,7 +20,7 @@ returns-in-Constraint c =
     let e = c.in-Constraint.is in
     record { made = constraint_accepted c.args.row _ e; judged = (ap makes_rule e, sym e) }
 
-pub returns-else-not-makes-rule : goal.returns-else-not-makes-rule
-returns-else-not-makes-rule c =
+pub returns-else-not-makes_rule : goal.returns-else-not-makes_rule
+returns-else-not-makes_rule c =
     let e = c.in-Choice.is in
-    record { made = choice_accepted c.args.row _ _ e; judged = (ap makes_rule e ∙ sym c.if-not-makes-rule.ensures, sym e) }
+    record { made = choice_accepted c.args.row _ _ e; judged = (ap makes_rule e ∙ sym c.if-not-makes_rule.ensures, sym e) }

@@ -8,5 +8,5 @@ pub returns : goal.returns
 returns c =
     record {
       made = accepted makes_wish wish_of wish_row wish_faithful c.args.row _ refl;
-      judged = (sym c.if-not-makes-wish.ensures, refl);
+      judged = (sym c.if-not-makes_wish.ensures, refl);
     }
