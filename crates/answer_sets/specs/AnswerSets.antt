@@ -1,6 +1,6 @@
 -- Answer sets of a list of rules with strong negation and choice heads.
 use Rattle.std.specs.Prelude.{List}
-use Rattle.std.specs.List.{AllByRecursion as All}
+use Rattle.std.specs.List.{AllByRecursion}
 use Rattle.literals.specs.declared.literal_set.LiteralSet.{LiteralSet}
 use Rattle.literals.specs.Sets.{Lit, In, ◌⊑◌}
 use Rattle.tables.specs.declared.records.Rule.{Rule}
@@ -12,7 +12,7 @@ ClosedUnder s x rule = Active s rule → rule.body.wanted ⊑ x → (k : Lit) �
 
 -- x has what each rule gives
 abbrev pub Closed : List Rule → LiteralSet → LiteralSet → Type 0
-Closed rules s x = All (ClosedUnder s x) rules
+Closed rules s x = AllByRecursion (ClosedUnder s x) rules
 
 -- x is the least set of s: closed, and inside every closed set
 pub record LeastSet (rules : List Rule) (s x : LiteralSet) : Type 0 where
@@ -21,5 +21,5 @@ pub record LeastSet (rules : List Rule) (s x : LiteralSet) : Type 0 where
 
 -- s satisfies every rule and is its own least set
 pub record AnswerSet (rules : List Rule) (s : LiteralSet) : Type 0 where
-  pub satisfied : All (Satisfies s) rules
+  pub satisfied : AllByRecursion (Satisfies s) rules
   pub founded : LeastSet rules s s

@@ -3,7 +3,7 @@ ghost use Rattle.answer_sets.specs.AnswerSets.{AnswerSet};
 ghost use Rattle.answer_sets.specs.Closing.{OfRow};
 ghost use Rattle.answer_sets.specs.Rules.{rules_of, Satisfies};
 ghost use Rattle.std.specs.Prelude.{Decides};
-ghost use Rattle.std.specs.List.{AllByRecursion as All};
+ghost use Rattle.std.specs.List.{AllByRecursion};
 
 use crate::closing::least_set;
 use crate::rules::satisfies_row;
@@ -12,7 +12,7 @@ use tables::RuleRow;
 
 // Whether the set satisfies every rule.
 fn satisfies_all(rows: &[RuleRow], set: LiteralSet) -> bool
-    ensures { Decides result (All (OfRow (Satisfies set)) rows.now) }
+    ensures { Decides result (AllByRecursion (OfRow (Satisfies set)) rows.now) }
 {
     for row in rows {
         if !satisfies_row(set, *row) {

@@ -4,7 +4,7 @@ ghost use Rattle.answer_sets.specs.Closing.{ClosedBy, OfRow};
 ghost use Rattle.answer_sets.specs.Rules.{rules_of};
 ghost use Rattle.literals.specs.Sets.{◌⊑◌};
 ghost use Rattle.literals.specs.declared.literal_set.LiteralSet.{LiteralSet as ASet};
-ghost use Rattle.std.specs.List.{AllByRecursion as All};
+ghost use Rattle.std.specs.List.{AllByRecursion};
 
 use crate::rules::given;
 use literals::LiteralSet;
@@ -43,8 +43,8 @@ pub fn grow(
     set: LiteralSet,
 ) -> LiteralSet
     ensures grown { set ⊑ result }
-    ensures least { (y : ASet) → All (ClosedBy against chosen y) (rules_of rows.now) → set ⊑ y → result ⊑ y }
-    ensures closed { result ⊑ set → All (ClosedBy against chosen set) (rules_of rows.now) }
+    ensures least { (y : ASet) → AllByRecursion (ClosedBy against chosen y) (rules_of rows.now) → set ⊑ y → result ⊑ y }
+    ensures closed { result ⊑ set → AllByRecursion (ClosedBy against chosen set) (rules_of rows.now) }
 {
     let mut got = set;
     for row in rows {

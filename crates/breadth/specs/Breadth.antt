@@ -1,6 +1,6 @@
 -- The breadth of a list of rules, and how many answer sets it leaves room for.
 use Rattle.std.specs.Prelude.{◌≡◌, ℕ, ◌^◌, ◌≤◌, ◌⊎◌, List, [], ◌∷◌, length, ◌≢◌}
-use Rattle.std.specs.List.{ContainsAt as Has, AllByRecursion as All}
+use Rattle.std.specs.List.{ContainsAt as Has, AllByRecursion}
 use Rattle.literals.specs.declared.literal_set.LiteralSet.{LiteralSet}
 use Rattle.literals.specs.Sets.{Lit, In, size}
 use Rattle.tables.specs.declared.records.Head.{Head}
@@ -30,8 +30,8 @@ Breadth rules n = (s : LiteralSet) × DecisiveSet rules s × (n ≡ size s)
 -- no two entries of the list are equal
 abbrev pub Different : List LiteralSet → Type 0
 Different [] = Unit {0}
-Different (s ∷ sets) = All (λ t. s ≢ t) sets × Different sets
+Different (s ∷ sets) = AllByRecursion (λ t. s ≢ t) sets × Different sets
 
 -- a list of different answer sets has at most 2 to the power of n entries
 abbrev pub AtMostAnswers : List Rule → ℕ → Type 0
-AtMostAnswers rules n = (sets : List LiteralSet) → All (AnswerSet rules) sets → Different sets → length sets ≤ 2 ^ n
+AtMostAnswers rules n = (sets : List LiteralSet) → AllByRecursion (AnswerSet rules) sets → Different sets → length sets ≤ 2 ^ n

@@ -1,6 +1,6 @@
 -- Which literals some rule gives. Words of private functions.
 use Rattle.std.specs.Prelude.{List, Some, None, Option}
-use Rattle.std.specs.List.{AllByRecursion as All}
+use Rattle.std.specs.List.{AllByRecursion}
 use Rattle.literals.specs.declared.literal_set.LiteralSet.{LiteralSet}
 use Rattle.literals.specs.Conditions.{Holds}
 use Rattle.literals.specs.Sets.{Lit, In, ◌⊑◌}
@@ -31,9 +31,9 @@ TurnedOr row t (Some u) = Turned row t u
 -- u comes from the bounds b by every rule: narrower bounds for the sets that satisfy all, and of such a set all that the rules
 -- whose bodies hold in it give is in the support
 pub record Passed (rules : List Rule) (b : Bounds) (u : Turn) : Type 0 where
-  pub bounds : Tighter (λ s. All (Satisfies s) rules) b u.bounds
-  pub supports : (s : LiteralSet) → All (Satisfies s) rules → Between u.bounds s → All (Supports u.support s) rules
+  pub bounds : Tighter (λ s. AllByRecursion (Satisfies s) rules) b u.bounds
+  pub supports : (s : LiteralSet) → AllByRecursion (Satisfies s) rules → Between u.bounds s → AllByRecursion (Supports u.support s) rules
 
 abbrev pub PassedOr : List Rule → Bounds → Option Turn → Type 0
-PassedOr rules b None = (s : LiteralSet) → All (Satisfies s) rules → Between b s → ⊥
+PassedOr rules b None = (s : LiteralSet) → AllByRecursion (Satisfies s) rules → Between b s → ⊥
 PassedOr rules b (Some u) = Passed rules b u

@@ -2,7 +2,7 @@
 -- stands for a, bit 1 for b, and so on.
 use Rattle.std.specs.Prelude.{◌≡◌, ℕ, ◌^◌, T, List, [], ◌∷◌, length, nat_lt}
 use Rattle.std.proofs.Common.{lit<}
-use Rattle.std.specs.List.{AllByRecursion as All}
+use Rattle.std.specs.List.{AllByRecursion}
 use Rattle.literals.specs.declared.condition.Condition.{Condition}
 use Rattle.literals.specs.declared.literal_set.LiteralSet.{LiteralSet}
 use Rattle.literals.proofs.Bitsets.{none_has}
@@ -67,5 +67,5 @@ stations = empty_book ∷ (even_loop ∷ (odd_loop ∷ (positive_loop ∷ (free_
 -- there are n stations, each lists the fits that are answer sets of its rules, and the last has a breadth of 4
 pub record Stations (n : ℕ) : Type 0 where
   pub number : n ≡ length stations
-  pub listed : All (λ s. Listing (rules_of s.rows) s.fits) stations
+  pub listed : AllByRecursion (λ s. Listing (rules_of s.rows) s.fits) stations
   pub broad : Breadth (rules_of two_choices.rows) 4

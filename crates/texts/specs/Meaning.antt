@@ -1,6 +1,6 @@
 -- What reading and writing a text mean: refusals are what the lines show, accepted texts are those of tables, and each gives the other back.
 use Rattle.std.specs.Prelude.{◌≡◌, ℕ, ◌^◌, ◌<◌, true, List, Ok}
-use Rattle.std.specs.List.{AllByRecursion as All}
+use Rattle.std.specs.List.{AllByRecursion}
 use Rattle.literals.specs.declared.literal_set.LiteralSet.{LiteralSet}
 use Rattle.tables.specs.declared.row.WishRow.{WishRow}
 use Rattle.tables.specs.declared.row.AlternativeRow.{AlternativeRow}
@@ -19,23 +19,23 @@ abbrev pub AlternativeFits : AlternativeRow → Type 0
 AlternativeFits a = (a.wish < 2 ^ 64) × (a.level < 256) × ConditionFits a.condition
 
 abbrev pub TablesFit : Tables → Type 0
-TablesFit t = All RuleFits t.rules × All WishFits t.wishes × All AlternativeFits t.alternatives
+TablesFit t = AllByRecursion RuleFits t.rules × AllByRecursion WishFits t.wishes × AllByRecursion AlternativeFits t.alternatives
 
 -- Reading a catalogue text.
 pub record CatalogueReading (text : List ℕ) : Type 0 where
   -- it is refused for what its lines show
   pub refused : RefusalsStand Catalogue text
   -- it is accepted exactly when it is the text of some catalogue
-  pub accepted : Exactly ((rows : List LiteralSet) × (catalogue text ≡ Ok rows)) ((rows : List LiteralSet) × All SetFits rows × (writable_catalogue rows ≡ true) × (catalogue_text rows ≡ text))
+  pub accepted : Exactly ((rows : List LiteralSet) × (catalogue text ≡ Ok rows)) ((rows : List LiteralSet) × AllByRecursion SetFits rows × (writable_catalogue rows ≡ true) × (catalogue_text rows ≡ text))
   -- accepted and written again, it is the same text
   pub same : (rows : List LiteralSet) → catalogue text ≡ Ok rows → catalogue_text rows ≡ text
 
 -- Writing a catalogue.
 pub record CatalogueWriting (rows : List LiteralSet) : Type 0 where
   -- it is writable exactly when some text gives it
-  pub given : All SetFits rows → Exactly (writable_catalogue rows ≡ true) ((text : List ℕ) × (catalogue text ≡ Ok rows))
+  pub given : AllByRecursion SetFits rows → Exactly (writable_catalogue rows ≡ true) ((text : List ℕ) × (catalogue text ≡ Ok rows))
   -- written, it reads back equal
-  pub back : All SetFits rows → writable_catalogue rows ≡ true → catalogue (catalogue_text rows) ≡ Ok rows
+  pub back : AllByRecursion SetFits rows → writable_catalogue rows ≡ true → catalogue (catalogue_text rows) ≡ Ok rows
 
 -- Reading a book text: the same.
 pub record BookReading (text : List ℕ) : Type 0 where

@@ -10,16 +10,16 @@ loop-reached-smaller c =
     omega (
       arith,
       size_more c.loop-reached.reached c.grow-next.result c.grow-next.ensures.grown
-          (not_from_Decides _ c.is-subset-in-loop-reached.ensures c.if-is-subset-2.false),
+          (not_from_Decides _ c.is_subset-in-loop-reached.ensures c.if-is_subset-2.false),
       size_le c.grow-next.result (omega arith) (omega arith),
     )
 
-pub returns-then-is-subset-2 : goal.returns-then-is-subset-2
-returns-then-is-subset-2 c =
+pub returns-then-is_subset-2 : goal.returns-then-is_subset-2
+returns-then-is_subset-2 c =
     let rows = c.args.rows.now in
     let b = c.args.bounds in
     let reached = c.loop-reached.reached in
-    let closed = c.grow-next.ensures.closed (c.is-subset-in-loop-reached.ensures.0 c.if-is-subset-2.true) in
+    let closed = c.grow-next.ensures.closed (c.is_subset-in-loop-reached.ensures.0 c.if-is_subset-2.true) in
     record {
       tighter = c.intersection.ensures.left;
       keeps = λ s a w k h. c.intersection.ensures.all k (w.high k h) (closed_includes (rules_of rows) b reached closed s a w k h);

@@ -11,14 +11,14 @@ use Rattle.propagation.proofs.Steps.{narrowed_trans, narrowed_from, widened}
 use Rattle.propagation.proofs.SupportLaws.{row_more_support}
 use Rattle.propagation.proofs.pass.turn_rows.Goals as goal
 
-pub returns-in-err-turn : goal.returns-in-err-turn
-returns-in-err-turn c =
+pub returns-in_err-turn : goal.returns-in_err-turn
+returns-in_err-turn c =
     let rows = c.args.rows.now in
     let t = c.loop-row.turn in
-    subst (PassedOr (rules_of rows) c.args.bounds) (sym c.from-residual.ensures)
+    subst (PassedOr (rules_of rows) c.args.bounds) (sym c.from_residual.ensures)
     (λ s sat w.
     let all = all_records rule_of (Satisfies s) rows sat in
-    c.in-err-turn.ensures s (row_at (OfRow (Satisfies s)) rows c.loop-row.row-index _ c.loop-row-test.true all)
+    c.in_err-turn.ensures s (row_at (OfRow (Satisfies s)) rows c.loop-row.row-index _ c.loop-row-test.true all)
     (c.loop-row.invariant.0.keeps s all w))
 
 pub loop-row-preserved : goal.loop-row-preserved
@@ -27,8 +27,8 @@ loop-row-preserved c =
     let i = c.loop-row.row-index in
     let inside = c.loop-row-test.true in
     let t = c.loop-row.turn in
-    let u = c.in-ok-turn.turn in
-    let turned = c.in-ok-turn.ensures in (
+    let u = c.in_ok-turn.turn in
+    let turned = c.in_ok-turn.ensures in (
       narrowed_trans (λ s. All (OfRow (Satisfies s)) rows) c.args.bounds t.bounds c.loop-row.invariant.0 (Some u.bounds)
           (narrowed_from (λ s. OfRow (Satisfies s) (get_or rows i _)) (λ s. All (OfRow (Satisfies s)) rows) t.bounds
           (λ s w all. row_at (OfRow (Satisfies s)) rows i _ inside all) (Some u.bounds) turned.bounds),

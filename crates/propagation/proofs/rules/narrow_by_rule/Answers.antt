@@ -4,14 +4,14 @@ use Rattle.std.proofs.Common.{Some}
 use Rattle.propagation.proofs.Steps.{narrowed_from}
 use Rattle.propagation.proofs.rules.narrow_by_rule.Goals as goal
 
-pub returns-then-condition-holds : goal.returns-then-condition-holds
-returns-then-condition-holds c =
+pub returns-then-condition_holds : goal.returns-then-condition_holds
+returns-then-condition_holds c =
     let rule = c.args.rule in
     narrowed_from (HeadHolds rule.head) (λ s. Satisfies s rule) c.args.bounds
-    (λ s w sat. sat (c.condition-holds.ensures c.if-condition-holds.true s w)) c.narrow-by-head.result c.narrow-by-head.ensures
+    (λ s w sat. sat (c.condition_holds.ensures c.if-condition_holds.true s w)) c.narrow_by_head.result c.narrow_by_head.ensures
 
-pub returns-then-head-fails : goal.returns-then-head-fails
-returns-then-head-fails c =
+pub returns-then-head_fails : goal.returns-then-head_fails
+returns-then-head_fails c =
     let rule = c.args.rule in
     narrowed_from (λ s. (Holds rule.body s → ⊥)) (λ s. Satisfies s rule) c.args.bounds
-    (λ s w sat h. c.head-fails.ensures c.if-head-fails.true s (sat h) w) (Some c.narrow-by-failing.result) c.narrow-by-failing.ensures
+    (λ s w sat h. c.head_fails.ensures c.if-head_fails.true s (sat h) w) (Some c.narrow_by_failing.result) c.narrow_by_failing.ensures
