@@ -1,5 +1,5 @@
 -- Sets that differ two by two on some of n literals are at most 2 to the power of n.
-use Rattle.std.proofs.Common.{◌≡◌, ℕ, zero, suc, ◌/◌, ◌%◌, ◌^◌, ◌<◌, ◌≤◌, Bool, true, false, cond, not, ◌⊎◌, List, [], ◌∷◌, ◌++◌, map, length, filter, sym, refl, ap, ◌∙◌, subst, inl, inr, ⊎_elim, pow-suc, div-one, arith, length-append}
+use Rattle.std.proofs.Common.{◌≡◌, ℕ, zero, suc, ◌/◌, ◌%◌, ◌^◌, ◌<◌, ◌≤◌, Bool, true, false, cond, not, ◌⊎◌, List, [], ◌∷◌, ◌++◌, map, length, filter, sym, refl, ◌∙◌, subst, inl, inr, ⊎_elim, pow-suc, div-one, arith, length-append}
 use lib.ListN.{length-map}
 use lib.Count.{ones, ones_step, ones-le}
 use Rattle.std.specs.List.{AllByRecursion as All}

@@ -1,7 +1,6 @@
 -- What no rule gives is in no answer set, and the strong negation of what is in is out.
 use Rattle.std.proofs.Common.{List, [], ◌∷◌, IfSome, Some, None, Option}
 use Rattle.std.specs.List.{AllByRecursion as All}
-use Rattle.std.proofs.ByRecursion.{All-weaker}
 use Rattle.literals.specs.declared.literal_set.LiteralSet.{LiteralSet}
 use Rattle.literals.specs.Sets.{Lit, atom, negated, In, ◌⊑◌, Shared, Difference}
 use Rattle.literals.proofs.SetLaws.{shared_is}

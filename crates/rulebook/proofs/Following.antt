@@ -9,7 +9,7 @@ use Rattle.literals.proofs.SetLaws.{present, same_sets, size_more}
 use Rattle.literals.proofs.Settling.{none_earlier, first_decides}
 use Rattle.picks.specs.declared.bounds.Bounds.{Bounds}
 use Rattle.picks.specs.declared.fit.Fit.{Fit}
-use Rattle.picks.specs.Between.{Between, Including, Excluding}
+use Rattle.picks.specs.Between.{Between, Including, Excluding, RaisesLower, CutsUpper}
 use Rattle.picks.specs.Fits.{place}
 use Rattle.picks.proofs.Places.{places_in_order, known_by_literals}
 use Rattle.fits.specs.First.{First}
@@ -48,13 +48,13 @@ module _ (a : LiteralSet) (b : Bounds) (r : LiteralSet) (d : Doubtful a b r) whe
     pub may_open : (In a k → ⊥) → In b.upper k
     may_open lacks = ⊎_elim (λ p. p.0) (λ p. absurd (lacks p.0)) (d.one k top.there)
 
-    pub less_included : (n : Bounds) → In a k → Including b k n → size n.lower ≤ 128
+    pub less_included : (n : Bounds) → In a k → RaisesLower b k n → size n.lower ≤ 128
         → (128 - size n.lower) + size n.upper < (128 - size b.lower) + size b.upper
     less_included n has e fits =
         let upper : size n.upper ≡ size b.upper = λ i. size (e.high i) in
         omega (arith, size_more b.lower n.lower e.low.kept (λ s. need_open has (s k e.low.there)))
 
-    pub less_excluded : (n : Bounds) → (In a k → ⊥) → Excluding b k n
+    pub less_excluded : (n : Bounds) → (In a k → ⊥) → CutsUpper b k n
         → (128 - size n.lower) + size n.upper < (128 - size b.lower) + size b.upper
     less_excluded n lacks e =
         let lower : size n.lower ≡ size b.lower = λ i. size (e.low i) in

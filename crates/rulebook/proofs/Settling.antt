@@ -1,13 +1,12 @@
 -- Why a search that leaves the first open literal out, and then takes it in, finds the first fit.
-use Rattle.std.proofs.Common.{◌≡◌, ◌+◌, ◌-◌, ◌<◌, ◌≤◌, Bool, List, Some, None, Option, sym, subst, ⊎_elim, le_of_lt, arith}
+use Rattle.std.proofs.Common.{◌≡◌, ◌-◌, ◌<◌, ◌≤◌, Bool, List, Some, None, Option, sym, subst, ⊎_elim, le_of_lt, arith}
 use Rattle.literals.specs.declared.literal_set.LiteralSet.{LiteralSet}
-use Rattle.literals.specs.Sets.{Lit, In, ◌⊑◌, size, Added, Removed}
+use Rattle.literals.specs.Sets.{Lit, ◌⊑◌, size}
 use Rattle.literals.proofs.SetLaws.{present, size_more, size_sub}
 use Rattle.picks.specs.declared.bounds.Bounds.{Bounds}
 use Rattle.picks.specs.declared.fit.Fit.{Fit}
 use Rattle.picks.specs.declared.picks.Picks.{Picks}
-use Rattle.picks.specs.Between.{Between, BoundsOf, FirstOpenAt, Including, Excluding}
-use Rattle.picks.specs.Fits.{place}
+use Rattle.picks.specs.Between.{Between, BoundsOf, FirstOpenAt, Including, Excluding, RaisesLower, CutsUpper}
 use Rattle.picks.proofs.Places.{places_in_order}
 use Rattle.picks.proofs.Spans.{lower_between, settled_one}
 use Rattle.fits.specs.Filters.{NonePasses}
@@ -24,7 +23,7 @@ pub lawful_fit : (rules : List Rule) (f : Fit) → AnswerSet rules f.literals �
 lawful_fit rules f a = record { consistent = f.sound.2; answer = a }
 
 -- the literals that are open: one fewer where one is settled
-pub fewer_excluded : (b n : Bounds) (k : Lit) → b.lower ⊑ b.upper → FirstOpenAt b k → Excluding b k n
+pub fewer_excluded : (b n : Bounds) (k : Lit) → b.lower ⊑ b.upper → FirstOpenAt b k → CutsUpper b k n
     → size n.upper - size n.lower < size b.upper - size b.lower
 fewer_excluded b n k wide hi e =
     let lower : size n.lower ≡ size b.lower = λ i. size (e.low i) in
@@ -34,7 +33,7 @@ fewer_excluded b n k wide hi e =
       size_more n.upper b.upper e.high.left (λ s. e.high.gone (s k hi.above)),
     )
 
-pub fewer_included : (b n : Bounds) (k : Lit) → b.lower ⊑ b.upper → FirstOpenAt b k → Including b k n
+pub fewer_included : (b n : Bounds) (k : Lit) → b.lower ⊑ b.upper → FirstOpenAt b k → RaisesLower b k n
     → size n.upper - size n.lower < size b.upper - size b.lower
 fewer_included b n k wide hi e =
     let upper : size n.upper ≡ size b.upper = λ i. size (e.high i) in

@@ -9,8 +9,8 @@ loop-row-init c = decisive_none
 
 pub loop-row-preserved : goal.loop-row-preserved
 loop-row-preserved c =
-    decisive_more c.args.rows.now c.loop-row.row-index _ c.loop-row-test.true c.loop-row.set c.decisive-row-more.result
-    c.union-set.result c.loop-row.invariant c.decisive-row-more.ensures c.union-set.ensures
+    decisive_more c.args.rows.now c.loop-row.row-index _ c.loop-row-test.true c.loop-row.set c.decisive_row-more.result
+    c.union-set.result c.loop-row.invariant c.decisive_row-more.ensures c.union-set.ensures
 
 pub returns : goal.returns
 returns c =

@@ -1,5 +1,4 @@
 use Rattle.std.proofs.Common.{◌-◌}
-use Rattle.std.specs.List.{AllByRecursion as All}
 use Rattle.literals.specs.Sets.{size}
 use Rattle.propagation.proofs.founded.founded_upper.Given as goal
 

@@ -6,7 +6,7 @@ use Rattle.propagation.specs.Narrowing.{Narrowed, Tighter, Wide, Lawful}
 use Rattle.propagation.proofs.Steps.{narrowed_trans, bounds_less, crossed}
 use Rattle.propagation.proofs.FoundedLaws.{by_founded}
 use Rattle.propagation.proofs.narrowing.narrow.Goals as goal
-use Rattle.propagation.proofs.narrowing.narrow.Goals.{After-founded_upper-upper, at·returns-then-not-is_subset, at·loop-next-again}
+use Rattle.propagation.proofs.narrowing.narrow.Goals.{After-founded_upper-upper, at-returns-then-not-is_subset, at-loop-next-preserved}
 
 pub returns-in_err-next : goal.returns-in_err-next
 returns-in_err-next c =
@@ -38,7 +38,7 @@ founded_at c =
 pub returns-then-not-is_subset : goal.returns-then-not-is_subset
 returns-then-not-is_subset c = record {
   narrowed = crossed (Lawful (rules_of c.args.rows.now)) c.args.bounds _
-      (founded_at (at·returns-then-not-is_subset c).After-founded_upper-upper)
+      (founded_at (at-returns-then-not-is_subset c).After-founded_upper-upper)
       (not_from_Decides _ c.is_subset-in-loop-next.ensures c.if-not-is_subset.true);
   wide = tt;
 }
@@ -54,4 +54,4 @@ loop-next-smaller c =
     (λ same. open' (λ k h. same.1 k (tighter.high k h)))
 
 pub loop-next-preserved : goal.loop-next-preserved
-loop-next-preserved c = founded_at (at·loop-next-again c).After-founded_upper-upper
+loop-next-preserved c = founded_at (at-loop-next-preserved c).After-founded_upper-upper

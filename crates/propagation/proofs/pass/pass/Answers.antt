@@ -5,7 +5,7 @@ use Rattle.propagation.specs.Narrowing.{Narrowed, Tighter, Wide, Lawful}
 use Rattle.propagation.proofs.Steps.{crossed, uncrossed}
 use Rattle.propagation.proofs.SupportLaws.{by_support}
 use Rattle.propagation.proofs.pass.pass.Goals as goal
-use Rattle.propagation.proofs.pass.pass.Goals.{After-difference, at·returns-then-are_crossed, at·returns-else-are_crossed}
+use Rattle.propagation.proofs.pass.pass.Goals.{After-difference, at-returns-then-are_crossed, at-returns-else-are_crossed}
 
 pub returns-in_err-n : goal.returns-in_err-n
 returns-in_err-n c = record {
@@ -24,13 +24,13 @@ narrowed_at c =
 
 pub returns-then-are_crossed : goal.returns-then-are_crossed
 returns-then-are_crossed c = record {
-  narrowed = crossed (Lawful (rules_of c.args.rows.now)) c.args.bounds _ (narrowed_at (at·returns-then-are_crossed c).After-difference)
+  narrowed = crossed (Lawful (rules_of c.args.rows.now)) c.args.bounds _ (narrowed_at (at-returns-then-are_crossed c).After-difference)
       (c.are_crossed.ensures.crossed.0 c.if-are_crossed.true);
   wide = tt;
 }
 
 pub returns-else-are_crossed : goal.returns-else-are_crossed
 returns-else-are_crossed c = record {
-  narrowed = narrowed_at (at·returns-else-are_crossed c).After-difference;
+  narrowed = narrowed_at (at-returns-else-are_crossed c).After-difference;
   wide = uncrossed c.in_ok-n.field-0.bounds.lower c.difference.result c.are_crossed.result c.are_crossed.ensures.crossed c.if-are_crossed.false;
 }

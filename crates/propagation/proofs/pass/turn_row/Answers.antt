@@ -1,4 +1,4 @@
-use Rattle.std.proofs.Common.{None, sym, subst}
+use Rattle.std.proofs.Common.{sym, subst}
 use Rattle.answer_sets.specs.Rules.{Satisfies}
 use Rattle.answer_sets.proofs.EachRow.{to_row, of_row}
 use Rattle.propagation.specs.Support.{Supports, TurnedOr}

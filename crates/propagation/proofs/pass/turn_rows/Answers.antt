@@ -1,4 +1,4 @@
-use Rattle.std.proofs.Common.{get_or, take, Some, None, sym, subst}
+use Rattle.std.proofs.Common.{get_or, take, Some, sym, subst}
 use Rattle.std.specs.List.{AllByRecursion as All}
 use Rattle.std.proofs.ByRecursion.{All-weaker}
 use Rattle.tables.specs.Making.{rule_of}

@@ -1,4 +1,4 @@
-use Rattle.std.proofs.Common.{true, Some, None, sym, subst, arith}
+use Rattle.std.proofs.Common.{Some, None, sym, subst, arith}
 use Rattle.literals.specs.Sets.{named}
 use Rattle.answer_sets.specs.Rules.{rules_of}
 use Rattle.fits.specs.First.{First}
@@ -7,37 +7,37 @@ use Rattle.rulebook.specs.Finding.{SuitsBetween}
 use Rattle.rulebook.proofs.Settling.{fewer_excluded, fewer_included, fewer_narrowed, first_narrowed, none_narrowed, none_hopeful, first_settled, first_excluded, first_included}
 use Rattle.rulebook.proofs.search.+settle.Goals as goal
 
-pub returns-in-err-n : goal.returns-in-err-n
-returns-in-err-n g t c =
+pub returns-in_err-n : goal.returns-in_err-n
+returns-in_err-n g t c =
     let rules = rules_of c.args.rows.now in
     let passing = g.F.Filter.passing c.args.filter.now in
-    subst (First (SuitsBetween rules passing c.args.bounds)) (sym c.from-residual.ensures)
-    (none_narrowed rules passing c.args.bounds c.in-err-n.ensures.narrowed)
+    subst (First (SuitsBetween rules passing c.args.bounds)) (sym c.from_residual.ensures)
+    (none_narrowed rules passing c.args.bounds c.in_err-n.ensures.narrowed)
 
-pub returns-then-is-hopeless : goal.returns-then-is-hopeless
-returns-then-is-hopeless g t c =
+pub returns-then-is_hopeless : goal.returns-then-is_hopeless
+returns-then-is_hopeless g t c =
     let rules = rules_of c.args.rows.now in
     let passing = g.F.Filter.passing c.args.filter.now in
-    let n = c.in-ok-n.n in
-    first_narrowed rules passing c.args.bounds n c.in-ok-n.ensures.narrowed None
-    (none_hopeful rules passing n (c.is-hopeless.ensures c.if-is-hopeless.true))
+    let n = c.in_ok-n.n in
+    first_narrowed rules passing c.args.bounds n c.in_ok-n.ensures.narrowed None
+    (none_hopeful rules passing n (c.is_hopeless.ensures c.if-is_hopeless.true))
 
-pub returns-in-default : goal.returns-in-default
-returns-in-default g t c =
+pub returns-in_default : goal.returns-in_default
+returns-in_default g t c =
     let rules = rules_of c.args.rows.now in
     let passing = g.F.Filter.passing c.args.filter.now in
-    let n = c.in-ok-n.n in
-    first_narrowed rules passing c.args.bounds n c.in-ok-n.ensures.narrowed c.suiting.result
-    (first_settled rules passing n c.in-ok-n.ensures.wide c.in-default.ensures c.suiting.result c.suiting.ensures)
+    let n = c.in_ok-n.n in
+    first_narrowed rules passing c.args.bounds n c.in_ok-n.ensures.narrowed c.suiting.result
+    (first_settled rules passing n c.in_ok-n.ensures.wide c.in_default.ensures c.suiting.result c.suiting.ensures)
 
 pub settle-requires : goal.settle-requires
 settle-requires g t c κs within =
-    let n = c.in-ok-n.n in (
+    let n = c.in_ok-n.n in (
       omega (
         arith,
         c.decreases,
-        fewer_narrowed (Lawful (rules_of c.args.rows.now)) c.args.bounds n c.in-ok-n.ensures.narrowed,
-        fewer_excluded n c.exclude.result (named c.in-Some.literal.code) c.in-ok-n.ensures.wide c.in-Some.ensures c.exclude.ensures,
+        fewer_narrowed (Lawful (rules_of c.args.rows.now)) c.args.bounds n c.in_ok-n.ensures.narrowed,
+        fewer_excluded n c.exclude.result (named c.in-Some.literal.code) c.in_ok-n.ensures.wide c.in-Some.ensures c.exclude.ensures.bounds,
       ),
       within,
     )
@@ -46,19 +46,19 @@ pub returns-in-Some-settle : goal.returns-in-Some-settle
 returns-in-Some-settle g t c =
     let rules = rules_of c.args.rows.now in
     let passing = g.F.Filter.passing c.args.filter.now in
-    let n = c.in-ok-n.n in
-    first_narrowed rules passing c.args.bounds n c.in-ok-n.ensures.narrowed (Some c.in-Some-settle.fit)
-    (first_excluded rules passing n (named c.in-Some.literal.code) c.in-Some.ensures c.exclude.result c.exclude.ensures
+    let n = c.in_ok-n.n in
+    first_narrowed rules passing c.args.bounds n c.in_ok-n.ensures.narrowed (Some c.in-Some-settle.fit)
+    (first_excluded rules passing n (named c.in-Some.literal.code) c.in-Some.ensures c.exclude.result c.exclude.ensures.between
     c.in-Some-settle.fit c.in-Some-settle.ensures)
 
 pub settle-requires-2 : goal.settle-requires-2
 settle-requires-2 g t c κs within =
-    let n = c.in-ok-n.n in (
+    let n = c.in_ok-n.n in (
       omega (
         arith,
         c.decreases,
-        fewer_narrowed (Lawful (rules_of c.args.rows.now)) c.args.bounds n c.in-ok-n.ensures.narrowed,
-        fewer_included n c.include.result (named c.in-Some.literal.code) c.in-ok-n.ensures.wide c.in-Some.ensures c.include.ensures,
+        fewer_narrowed (Lawful (rules_of c.args.rows.now)) c.args.bounds n c.in_ok-n.ensures.narrowed,
+        fewer_included n c.include.result (named c.in-Some.literal.code) c.in_ok-n.ensures.wide c.in-Some.ensures c.include.ensures.bounds,
       ),
       within,
     )
@@ -67,7 +67,7 @@ pub returns : goal.returns
 returns g t c =
     let rules = rules_of c.args.rows.now in
     let passing = g.F.Filter.passing c.args.filter.now in
-    let n = c.in-ok-n.n in
-    first_narrowed rules passing c.args.bounds n c.in-ok-n.ensures.narrowed c.settle-2.result
-    (first_included rules passing n (named c.in-Some.literal.code) c.in-Some.ensures c.exclude.result c.exclude.ensures
-    c.include.result c.include.ensures c.in-default-settle.ensures c.settle-2.result c.settle-2.ensures)
+    let n = c.in_ok-n.n in
+    first_narrowed rules passing c.args.bounds n c.in_ok-n.ensures.narrowed c.settle-2.result
+    (first_included rules passing n (named c.in-Some.literal.code) c.in-Some.ensures c.exclude.result c.exclude.ensures.between
+    c.include.result c.include.ensures.between c.in_default-settle.ensures c.settle-2.result c.settle-2.ensures)

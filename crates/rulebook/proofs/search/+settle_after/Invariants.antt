@@ -3,5 +3,5 @@ use Rattle.literals.specs.Sets.{size}
 use Rattle.rulebook.proofs.search.+settle_after.Given as goal
 
 -- the literals that are not yet in, and those that are not yet out
-abbrev pub decreases-settle-after : goal.decreases-settle-after
-decreases-settle-after g l = (128 - size l.bounds.lower) + size l.bounds.upper
+abbrev pub decreases-settle_after : goal.decreases-settle_after
+decreases-settle_after g l = (128 - size l.bounds.lower) + size l.bounds.upper

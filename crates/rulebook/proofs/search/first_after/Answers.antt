@@ -6,25 +6,25 @@ use Rattle.fits.specs.First.{First, NextPassing}
 use Rattle.rulebook.proofs.Settling.{first_kept, first_kept_after, none_kept_after}
 use Rattle.rulebook.proofs.search.first_after.Goals as goal
 
-pub returns-in-default : goal.returns-in-default
-returns-in-default g c =
+pub returns-in_default : goal.returns-in_default
+returns-in_default g c =
     let rules = rules_of c.args.rows.now in
     let passing = g.F.Filter.passing c.args.filter.now in
     let P : Option Fit → Type 0 = λ a. First (NextPassing (λ f. AnswerSet rules f.literals) passing c.args.picks a) c.settle.result in
-    subst P (sym c.in-default.is) (first_kept rules passing c.args.picks c.of-bounds.result c.of-bounds.ensures c.settle.result c.settle.ensures)
+    subst P (sym c.in_default.is) (first_kept rules passing c.args.picks c.of-bounds.result c.of-bounds.ensures c.settle.result c.settle.ensures)
 
-pub returns-in-err-n : goal.returns-in-err-n
-returns-in-err-n g c =
+pub returns-in_err-n : goal.returns-in_err-n
+returns-in_err-n g c =
     let rules = rules_of c.args.rows.now in
     let passing = g.F.Filter.passing c.args.filter.now in
-    subst (First (NextPassing (λ f. AnswerSet rules f.literals) passing c.args.picks c.args.after)) (sym c.from-residual.ensures)
-    (none_kept_after rules passing c.args.picks c.of-bounds.result c.of-bounds.ensures c.args.after c.in-err-n.ensures.narrowed)
+    subst (First (NextPassing (λ f. AnswerSet rules f.literals) passing c.args.picks c.args.after)) (sym c.from_residual.ensures)
+    (none_kept_after rules passing c.args.picks c.of-bounds.result c.of-bounds.ensures c.args.after c.in_err-n.ensures.narrowed)
 
 pub returns : goal.returns
 returns g c =
     let rules = rules_of c.args.rows.now in
     let passing = g.F.Filter.passing c.args.filter.now in
-    let P : Option Fit → Type 0 = λ a. First (NextPassing (λ f. AnswerSet rules f.literals) passing c.args.picks a) c.settle-after.result in
+    let P : Option Fit → Type 0 = λ a. First (NextPassing (λ f. AnswerSet rules f.literals) passing c.args.picks a) c.settle_after.result in
     subst P (sym c.in-Some.is)
-    (first_kept_after rules passing c.args.picks c.of-bounds.result c.of-bounds.ensures c.in-Some.given c.in-ok-n.n
-    c.in-ok-n.ensures.narrowed c.settle-after.result c.settle-after.ensures)
+    (first_kept_after rules passing c.args.picks c.of-bounds.result c.of-bounds.ensures c.in-Some.given c.in_ok-n.n
+    c.in_ok-n.ensures.narrowed c.settle_after.result c.settle_after.ensures)
