@@ -86,4 +86,4 @@ pub record Added (x : LiteralSet) (k : Lit) (r : LiteralSet) : Type 0 where
 pub record Removed (x : LiteralSet) (k : Lit) (r : LiteralSet) : Type 0 where
   pub gone : In r k → ⊥
   pub left : r ⊑ x
-  pub kept : (l : Lit) → In x l → (l ≢ k) → In r l
+  pub kept : (l : Lit) → In x l → l ≢ k → In r l

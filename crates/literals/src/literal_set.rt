@@ -176,8 +176,8 @@ impl LiteralSet {
     // two clauses are the laws that this stands on, for words of any width and for sets.
     pub fn first_difference(self, other: LiteralSet) -> Option<Literal>
         ensures found { FirstDifference self other result }
-        ensures words { (Extensional) × (HighestDecides) }
-        ensures sets { (SameLiterals) × (FirstDecides) }
+        ensures words { Extensional × HighestDecides }
+        ensures sets { SameLiterals × FirstDecides }
     {
         self.symmetric_difference(other).highest()
     }

@@ -28,7 +28,7 @@ impl Fit {
     // Whether the fits are the same.
     pub fn is_same(self, other: Fit) -> bool
         ensures same { Decides result (self ≡ other) }
-        ensures known { (KnownByLiterals) × (KnownByPlace) }
+        ensures known { KnownByLiterals × KnownByPlace }
     {
         self.literals.is_same(other.literals)
     }
