@@ -19,14 +19,14 @@ abbrev pub refusal_line : ℕ → ℕ → List ℕ
 refusal_line number line = line_with (sealed (63 ∷ number ∷ word_bytes 4 line))
 
 -- The numbers of refusals to write.
-abbrev pub write_number : WriteFault → ℕ
-write_number TooWide = 22
-write_number BufferShort = 21
+abbrev pub write_fault_number : WriteFault → ℕ
+write_fault_number TooWide = 22
+write_fault_number BufferShort = 21
 
 -- They lie in no line of a text.
-abbrev pub write_line : WriteFault → ℕ
-write_line TooWide = 0
-write_line BufferShort = 0
+abbrev pub write_fault_line : WriteFault → ℕ
+write_fault_line TooWide = 0
+write_fault_line BufferShort = 0
 
 -- Every column is a number of two bytes.
 abbrev pub all_narrow : List ℕ → Bool

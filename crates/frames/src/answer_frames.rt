@@ -1,7 +1,7 @@
 // The lines of answers, which are only written: rows of numbers, "more remain", refusals.
 ghost use Rattle.std.specs.Prelude.{◌≡◌, ◌+◌, ◌*◌, ◌≤◌, true, [], ◌∷◌, ◌++◌, length, drop};
 ghost use Rattle.std.specs.List.{flat_map};
-ghost use Rattle.frames.specs.AnswerLines.{write_number, write_line, narrow, row_line, more_line, refusal_line, wrote, wrote_row, row_written_in};
+ghost use Rattle.frames.specs.AnswerLines.{write_fault_number, write_fault_line, narrow, row_line, more_line, refusal_line, wrote, wrote_row, row_written_in};
 ghost use Rattle.frames.specs.Frames.{word_bytes, wrote_in, written_in};
 
 use crate::writer::write_line;
@@ -18,7 +18,7 @@ pub enum WriteFault {
 impl WriteFault {
     // The number of the refusal.
     pub fn number(self) -> u8
-        ensures { result ≡ write_number self }
+        ensures { result ≡ write_fault_number self }
     {
         match self {
             WriteFault::TooWide => 22,
@@ -28,7 +28,7 @@ impl WriteFault {
 
     // The line of the refusal.
     pub fn line(self) -> u32
-        ensures { result ≡ write_line self }
+        ensures { result ≡ write_fault_line self }
     {
         0
     }

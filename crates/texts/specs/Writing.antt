@@ -1,5 +1,5 @@
 -- The texts of tables, and the tables that have one.
-use Rattle.std.specs.Prelude.{ℕ, zero, suc, ◌+◌, ◌-◌, Bool, true, cond, ◌&&◌, ltb, List, [], ◌∷◌, ◌++◌, map, length, drop, Ok, Err, Result, ◌==◌, nat_le, nat_lt}
+use Rattle.std.specs.Prelude.{ℕ, zero, suc, ◌+◌, ◌-◌, Bool, true, cond, ◌&&◌, List, [], ◌∷◌, ◌++◌, map, length, drop, Ok, Err, Result, ◌==◌, nat_le, nat_lt}
 use Rattle.std.specs.List.{flat_map}
 use Rattle.literals.specs.declared.literal_set.LiteralSet.{LiteralSet}
 use Rattle.tables.specs.declared.row.WishRow.{WishRow}
@@ -78,7 +78,7 @@ writable_catalogue rows = each makes_fit rows && holdable (fit_frames rows)
 -- wishes stand in the order of their ranks, and alternatives in the order of their wishes, none without its wish
 abbrev pub orderly : List WishRow → List AlternativeRow → Bool
 orderly wishes alternatives =
-    rising 0 (map (λ w. w.rank) wishes) && (rising 0 (map (λ a. a.wish) alternatives) && each (λ a. ltb a.wish (length wishes)) alternatives)
+    rising 0 (map (λ w. w.rank) wishes) && (rising 0 (map (λ a. a.wish) alternatives) && each (λ a. nat_lt a.wish (length wishes)) alternatives)
 
 -- Some text gives the tables of a book.
 abbrev pub writable_book : Tables → Bool
