@@ -18,7 +18,7 @@ LAMBDA = re.compile(r"λ ((?:" + WORD + r"+ ?)+)\.")
 MADE = re.compile(r"(goal|given|need)\.")
 # bound by a pattern
 PARTS = "fit-wishes made-wishes fit-rules made-rules fit-alternatives made-alternatives h-is h-makes length-is".split()
-# lemmas that would fall together with a definition
+# lemmas that would fall together with a definition, and a local fact
 LEMMAS = {
     "set-bytes": "set_bytes_lem",
     "condition-bytes": "condition_bytes_lem",
