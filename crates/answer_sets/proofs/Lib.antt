@@ -1,1 +1,1 @@
-pub mod EachRow
+pub mod EachRule

@@ -1,3 +1,3 @@
 pub mod Rules
-pub mod AnswerSets
 pub mod Closing
+pub mod AnswerSets

@@ -6,4 +6,4 @@ mod closing;
 mod rules;
 
 pub use answer_set::is_answer_set;
-pub use closing::{grow, least_set};
+pub use closing::{Reduct, least_set};

@@ -1,7 +1,5 @@
 -- Two answer sets that agree on every literal under "not" and in a choice head are one.
 use Rattle.std.proofs.Common.{◌≡◌, List, inl, inr}
-use Rattle.std.proofs.ByRecursion.{All-weaker, all-has, all_has_itself}
-use Rattle.std.specs.List.{ContainsAt as Has}
 use Rattle.literals.specs.declared.literal_set.LiteralSet.{LiteralSet}
 use Rattle.literals.specs.Sets.{Lit, In}
 use Rattle.literals.proofs.SetLaws.{same_sets}
@@ -9,7 +7,7 @@ use Rattle.tables.specs.declared.records.Head.{Head}
 use Rattle.tables.specs.declared.records.Head.TheVariants.{Plain, Constraint, Choice}
 use Rattle.tables.specs.declared.records.Rule.{Rule}
 use Rattle.answer_sets.specs.Rules.{Gives}
-use Rattle.answer_sets.specs.AnswerSets.{ClosedUnder, Closed, AnswerSet}
+use Rattle.answer_sets.specs.AnswerSets.{Closed, AnswerSet}
 use Rattle.breadth.specs.Breadth.{InChoice, DecisiveSet}
 
 -- of the literals of d, t has those that s has
@@ -23,12 +21,10 @@ gives_alike d s t a (Choice choice) c k g = (g.0, a k (c k g.0) g.1)
 
 module _ (rules : List Rule) (d : LiteralSet) (decisive : DecisiveSet rules d) where
   closed_alike : (s t x : LiteralSet) → Agree d s t → Agree d t s → Closed rules s x → Closed rules t x
-  closed_alike s t x a b closed =
-      All-weaker (Has rules) (ClosedUnder t x)
-      (λ r there active wanted k g.
-      all-has (ClosedUnder s x) rules r closed there (λ l h p. active l h (a l (decisive.all r there l (inl h)) p)) wanted k
-      (gives_alike d s t b r.head (λ l h. decisive.all r there l (inr h)) k g))
-      rules (all_has_itself rules)
+  closed_alike s t x a b closed i r inside active wanted k g =
+      let there = decisive.all i r inside in
+      closed i r inside (λ l h p. active l h (a l (there l (inl h)) p)) wanted k
+      (gives_alike d s t b _ (λ l h. there l (inr h)) k g)
 
   pub answers_alike : (s t : LiteralSet) → Agree d s t → Agree d t s → AnswerSet rules s → AnswerSet rules t → s ≡ t
   answers_alike s t a b u v =

@@ -1,6 +1,5 @@
 -- The breadth of a list of rules, and how many answer sets it leaves room for.
-use Rattle.std.specs.Prelude.{◌≡◌, ℕ, ◌^◌, ◌≤◌, ◌⊎◌, List, [], ◌∷◌, length, ◌≢◌}
-use Rattle.std.specs.List.{ContainsAt as Has, AllByRecursion}
+use Rattle.std.specs.Prelude.{◌≡◌, ℕ, ◌^◌, ◌≤◌, ◌⊎◌, List, length, ◌≢◌, All, Any, AllPairs}
 use Rattle.literals.specs.declared.literal_set.LiteralSet.{LiteralSet}
 use Rattle.literals.specs.Sets.{Lit, In, size}
 use Rattle.tables.specs.declared.records.Head.{Head}
@@ -20,8 +19,8 @@ Decisive rule k = In rule.body.absent k ⊎ InChoice rule.head k
 
 -- s has exactly the literals that are decisive in some rule
 pub record DecisiveSet (rules : List Rule) (s : LiteralSet) : Type 0 where
-  pub all : (rule : Rule) → Has rules rule → (k : Lit) → Decisive rule k → In s k
-  pub only : (k : Lit) → In s k → (rule : Rule) × Has rules rule × Decisive rule k
+  pub all : All (λ rule. (k : Lit) → Decisive rule k → In s k) rules
+  pub only : (k : Lit) → In s k → Any (λ rule. Decisive rule k) rules
 
 -- n is the number of different literals that are decisive in some rule
 abbrev pub Breadth : List Rule → ℕ → Type 0
@@ -29,9 +28,8 @@ Breadth rules n = (s : LiteralSet) × DecisiveSet rules s × (n ≡ size s)
 
 -- no two entries of the list are equal
 abbrev pub Different : List LiteralSet → Type 0
-Different [] = Unit {0}
-Different (s ∷ sets) = AllByRecursion (λ t. s ≢ t) sets × Different sets
+Different sets = AllPairs ◌≢◌ sets
 
 -- a list of different answer sets has at most 2 to the power of n entries
 abbrev pub AtMostAnswers : List Rule → ℕ → Type 0
-AtMostAnswers rules n = (sets : List LiteralSet) → AllByRecursion (AnswerSet rules) sets → Different sets → length sets ≤ 2 ^ n
+AtMostAnswers rules n = (sets : List LiteralSet) → All (AnswerSet rules) sets → Different sets → length sets ≤ 2 ^ n

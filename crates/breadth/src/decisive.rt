@@ -4,7 +4,7 @@ ghost use Rattle.answer_sets.specs.Rules.{rules_of};
 ghost use Rattle.breadth.specs.Breadth.{DecisiveSet, Breadth, AtMostAnswers};
 
 use literals::LiteralSet;
-use tables::{Head, Rule, RuleRow};
+use tables::{Head, Records, Rule, RuleRow};
 
 // The literals under "not" in the body of the rule, and those of its head where that is a choice.
 fn decisive(rule: Rule) -> LiteralSet
@@ -18,26 +18,13 @@ fn decisive(rule: Rule) -> LiteralSet
     }
 }
 
-// The same of the rule of the row, if it makes one.
-fn decisive_row(row: RuleRow) -> LiteralSet
-    ensures { DecisiveSet (rules_of (row ∷ [])) result }
-{
-    match Rule::new(row) {
-        Ok(rule) => decisive(rule),
-        Err(_) => LiteralSet::EMPTY,
-    }
-}
-
 // The breadth of the rules of the table: how many different literals stand under "not" in a body or in a choice head. With a
 // breadth of n there are at most 2 to the power of n answer sets.
 pub fn breadth(rows: &[RuleRow]) -> u32
     ensures counted { Breadth (rules_of rows.now) result }
     ensures bound { AtMostAnswers (rules_of rows.now) result }
 {
-    let mut set = LiteralSet::EMPTY;
-    for row in rows {
-        let more = decisive_row(*row);
-        set = set.union(more);
-    }
-    set.len()
+    Records::of(rows)
+        .fold(LiteralSet::EMPTY, |set, rule| set.union(decisive(rule)))
+        .len()
 }

@@ -13,21 +13,17 @@ fn atoms(word: u64) -> LiteralSet {
 // Two choices, a plain rule and a constraint: only the heads of the choices count.
 #[test]
 fn heads_of_choices(rt: HostRuntime) {
-    let free = Condition {
-        wanted: LiteralSet::EMPTY,
-        absent: LiteralSet::EMPTY,
-    };
     let first = RuleRow::Choice {
         least: 1,
         greatest: 1,
         head: atoms(0x03),
-        body: free,
+        body: Condition::ALWAYS,
     };
     let second = RuleRow::Choice {
         least: 1,
         greatest: 1,
         head: atoms(0x0c),
-        body: free,
+        body: Condition::ALWAYS,
     };
     let plain = RuleRow::Plain {
         code: 8,

@@ -1,5 +1,6 @@
 -- What comes after a fit, and the first fit of two kinds.
-use Rattle.std.proofs.Common.{◌≡◌, ℕ, ◌+◌, ◌-◌, ◌^◌, ◌<◌, ◌≤◌, Bool, false, T, ◌⊎◌, Some, None, Option, sym, refl, subst, inl, inr, ⊎_elim, eq-or-lt_of_le, arith}
+use Rattle.std.proofs.Common.{◌≡◌, ℕ, ◌+◌, ◌-◌, ◌^◌, ◌<◌, ◌≤◌, Bool, false, IsTrue, ◌⊎◌, Some, None, Option, refl, ap, ◌∙◌, subst, inl, inr, ⊎_elim, eq-or-lt_of_le, arith}
+use Rattle.std.proofs.lemmas.Bool.{false≢true}
 use Rattle.picks.specs.declared.fit.Fit.{Fit}
 use Rattle.picks.specs.Fits.{place}
 use Rattle.picks.proofs.Places.{known_by_place}
@@ -16,8 +17,8 @@ after_more (Some a) f g h k = omega arith
 after_more None f g h k = tt
 
 -- a fit that passes, and does not come before one that does not pass, comes after it
-pub apart : (P : Fit → Bool) (f g : Fit) → false ≡ P f → T (P g) → place f ≤ place g → place f < place g
-apart P f g out t le = elim (eq-or-lt_of_le le) [ inr lt ↦ lt | inl eq ↦ absurd (subst T (sym out) (subst (λ x. T (P x)) (sym (known_by_place f g eq)) t)) ]
+pub apart : (P : Fit → Bool) (f g : Fit) → false ≡ P f → IsTrue (P g) → place f ≤ place g → place f < place g
+apart P f g out t le = elim (eq-or-lt_of_le le) [ inr lt ↦ lt | inl eq ↦ absurd (false≢true (out ∙ ap P (known_by_place f g eq) ∙ t)) ]
 
 -- what is first of a kind is first of any kind that holds of the same fits
 pub first_like : (P Q : Fit → Type 0) → ((f : Fit) → P f → Q f) → ((f : Fit) → Q f → P f) → (r : Option Fit) → First P r → First Q r

@@ -1,5 +1,5 @@
 -- The first fit of a kind, and the kinds that a source is asked for.
-use Rattle.std.specs.Prelude.{◌<◌, ◌≤◌, Bool, T, Some, None, Option}
+use Rattle.std.specs.Prelude.{◌<◌, ◌≤◌, Bool, IsTrue, Some, None, Option}
 use Rattle.picks.specs.declared.fit.Fit.{Fit}
 use Rattle.picks.specs.declared.picks.Picks.{Picks}
 use Rattle.picks.specs.Fits.{place}
@@ -21,4 +21,4 @@ Next lawful picks after f = lawful f × Keeps picks f × After after f
 
 -- such a fit that passes
 abbrev pub NextPassing : (Fit → Type 0) → (Fit → Bool) → Picks → Option Fit → Fit → Type 0
-NextPassing lawful passing picks after f = Next lawful picks after f × T (passing f)
+NextPassing lawful passing picks after f = Next lawful picks after f × IsTrue (passing f)

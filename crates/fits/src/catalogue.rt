@@ -1,5 +1,5 @@
 // Catalogues: fits as the rows of a table.
-ghost use Rattle.std.specs.Prelude.{◌≡◌, ◌⊎◌, Some, Decides};
+ghost use Rattle.std.specs.Prelude.{◌≡◌, ◌⊎◌, Some, ◌↔◌, IsTrue};
 ghost use Rattle.fits.specs.First.{After, First, Next};
 ghost use Rattle.fits.specs.Listed.{Listed};
 
@@ -37,33 +37,25 @@ impl<'a> Source for Catalogue<'a> {
 fn suiting(row: LiteralSet, picks: Picks, after: Option<Fit>) -> Option<Fit>
     ensures { First (Next (λ f. f.literals ≡ row) picks after) result }
 {
-    let fit = Fit::new(row).ok()?;
-    if picks.kept_by(fit) && is_after(fit, after) {
-        Some(fit)
-    } else {
-        None
-    }
+    Fit::try_from(row)
+        .ok()
+        .filter(|fit| picks.kept_by(*fit) && is_after(*fit, after))
 }
 
 // Whether the fit comes after the given one, if one is given.
 fn is_after(fit: Fit, after: Option<Fit>) -> bool
-    ensures { Decides result (After after fit) }
+    ensures { IsTrue result ↔ After after fit }
 {
-    match after {
-        Some(given) => given.is_before(fit),
-        None => true,
-    }
+    after.is_none_or(|given| given < fit)
 }
 
 // The first of those that are given.
 fn first_of(one: Option<Fit>, other: Option<Fit>) -> Option<Fit>
     ensures { First (λ f. (one ≡ Some f) ⊎ (other ≡ Some f)) result }
 {
-    let Some(a) = one else {
-        return other;
-    };
-    let Some(b) = other else {
-        return one;
-    };
-    if b.is_before(a) { other } else { one }
+    match (one, other) {
+        (Some(a), Some(b)) => Some(a.min(b)),
+        (found, None) => found,
+        (None, found) => found,
+    }
 }

@@ -5,7 +5,8 @@ ghost use Rattle.picks.specs.declared.fit.Fit.{Fit as AFit};
 use crate::filter::Filter;
 use picks::{Fit, Picks};
 
-// A collection of fits, its lawful fits. `next` is the one function that a source must have.
+// A collection of fits, its lawful fits. `next` is the one function that a source must have. The picks stay two parameters with
+// the fit, and no struct, since they stand while the fit goes on.
 pub trait Source {
     ghost lawful: { Self → AFit → Type 0 };
 

@@ -30,12 +30,8 @@ impl Filter for Above {
     }
 }
 
-// The word `plus` of a fit, and 99 for none.
-fn plus_of(fit: Option<Fit>) -> u64 {
-    match fit {
-        Some(f) => f.literals().plus,
-        None => 99,
-    }
+fn plus_of(fit: Option<Fit>) -> Option<u64> {
+    fit.map(|f| f.literals().plus)
 }
 
 #[test]
@@ -43,10 +39,10 @@ fn rows_come_in_order_and_once(rt: HostRuntime) {
     let rows = ROWS;
     let catalogue = Catalogue::new(&rows);
     let first = catalogue.next(Picks::new(), None);
-    assert_eq!(rt; plus_of(first), 2);
+    assert_eq!(rt; plus_of(first), Some(2));
     let second = catalogue.next(Picks::new(), first);
-    assert_eq!(rt; plus_of(second), 3);
-    assert_eq!(rt; plus_of(catalogue.next(Picks::new(), second)), 99);
+    assert_eq!(rt; plus_of(second), Some(3));
+    assert_eq!(rt; plus_of(catalogue.next(Picks::new(), second)), None);
 }
 
 #[test]
@@ -57,14 +53,14 @@ fn picks_are_kept(rt: HostRuntime) -> Result<(), Fail> {
     let Some(with) = Picks::new().require(atom) else {
         return Err(Fail::new("nothing was picked"));
     };
-    assert_eq!(rt; plus_of(catalogue.next(with, None)), 3);
+    assert_eq!(rt; plus_of(catalogue.next(with, None)), Some(3));
     assert_eq!(rt;
         plus_of(catalogue.next_passing(Picks::new(), None, &Above { plus: 2 })),
-        3
+        Some(3)
     );
     assert_eq!(rt;
         plus_of(catalogue.next_passing(Picks::new(), None, &Above { plus: 3 })),
-        99
+        None
     );
     Ok(())
 }

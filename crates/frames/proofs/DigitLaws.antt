@@ -1,16 +1,18 @@
 -- Digits and bytes answer to each other.
-use Rattle.std.proofs.Common.{◌≡◌, ℕ, zero, suc, ◌+◌, ◌*◌, ◌/◌, ◌%◌, ◌<◌, ◌≤◌, true, false, ◌&&◌, eqb, List, [], ◌∷◌, ◌++◌, length, take, drop, Some, None, Ok, Err, Option, Result, refl, ap, ◌∙◌, arith}
-use Rattle.std.proofs.lemmas.Bool.{and_parts, and_from, eq-eqb, le-ltb, cond-true, cond-false}
+use Rattle.std.proofs.Common.{◌≡◌, ℕ, zero, suc, ◌+◌, ◌-◌, ◌*◌, ◌/◌, ◌%◌, ◌<◌, ◌≤◌, true, false, ◌&&◌, eqb, List, [], ◌∷◌, ◌++◌, length, get_or, take, drop, not, le_refl, Some, None, Ok, Err, Option, Result, refl, ap, ◌∙◌, arith}
+use Rattle.std.proofs.lemmas.Bool.{and_parts, and_from, eq-eqb, not_from_true, le-ltb, cond-true, cond-false}
 use Rattle.std.proofs.lemmas.Bool.Decides.{nat_tests}
-use Rattle.frames.specs.Digits.{is_digit, all_digits, value_of, digit_of, hex_of, bytes_of, first_bad, count_fault, or_else, digit_fault}
+use Rattle.std.specs.List.{list_all}
+use Rattle.std.specs.Option.{option_map, option_or}
+use Rattle.std.proofs.lemmas.List.Sums.{position_or_len_is}
+use Rattle.frames.specs.declared.frame.DigitFault.TheVariants.{BadByte}
+use Rattle.frames.specs.Digits.{is_digit, value_of, digit_of, hex_of, bytes_of, first_bad, count_fault, digit_fault}
 use Rattle.frames.specs.Frames.{body_of, line_of, behind}
-use Rattle.frames.proofs.HexLaws.{length_hex_of}
+pub use Rattle.frames.proofs.HexLaws.{some_none}
+use Rattle.frames.proofs.HexLaws.{length_hex_of, digit_at}
 use Rattle.frames.proofs.WordLaws.{Bytes}
 
 -- ---- constructors
-
-pub some_none : {A : Type 0} {x : A} → ◌≡◌ {A = Option A} (Some x) None → ⊥
-some_none e = let z : ◌≡◌ {A = ℕ} 0 1 = cc in omega arith
 
 pub ok_err : {A B : Type 0} {x : A} {y : B} → ◌≡◌ {A = Result A B} (Ok x) (Err y) → ⊥
 ok_err e = let z : ◌≡◌ {A = ℕ} 0 1 = cc in omega arith
@@ -38,12 +40,12 @@ digit_good v e = grind (arith, nat_tests)
 pub value_back : (v : ℕ) → v < 16 → value_of (digit_of v) ≡ v
 value_back v e = grind (arith, nat_tests)
 
-pub hex_back : (l : List ℕ) → all_digits l ≡ true → length l % 2 ≡ 0 → hex_of (bytes_of l) ≡ l
+pub hex_back : (l : List ℕ) → list_all is_digit l ≡ true → length l % 2 ≡ 0 → hex_of (bytes_of l) ≡ l
 hex_back [] a e = refl
 hex_back (x ∷ []) a e = absurd (omega arith)
 hex_back (x ∷ y ∷ l) a e =
-    let p = and_parts (is_digit x) (is_digit y && all_digits l) a in
-    let q = and_parts (is_digit y) (all_digits l) p.1 in
+    let p = and_parts (is_digit x) (is_digit y && list_all is_digit l) a in
+    let q = and_parts (is_digit y) (list_all is_digit l) p.1 in
     let sx = value_small x p.0 in
     let sy = value_small y q.0 in
     let byte = value_of x * 16 + value_of y in
@@ -53,24 +55,22 @@ hex_back (x ∷ y ∷ l) a e =
     ap (λ h. h ∷ digit_of (byte % 16) ∷ hex_of (bytes_of l)) high ∙ ap (λ h. x ∷ h ∷ hex_of (bytes_of l)) low ∙ ap (λ t. x ∷ y ∷ t) rest
 
 -- digits bound the bytes that they write
-pub bytes_small : (l : List ℕ) → all_digits l ≡ true → Bytes (bytes_of l)
+pub bytes_small : (l : List ℕ) → list_all is_digit l ≡ true → Bytes (bytes_of l)
 bytes_small [] a = tt
 bytes_small (x ∷ []) a = tt
 bytes_small (x ∷ y ∷ l) a =
-    let p = and_parts (is_digit x) (is_digit y && all_digits l) a in
-    let q = and_parts (is_digit y) (all_digits l) p.1 in
+    let p = and_parts (is_digit x) (is_digit y && list_all is_digit l) a in
+    let q = and_parts (is_digit y) (list_all is_digit l) p.1 in
     let sx = value_small x p.0 in
     let sy = value_small y q.0 in (omega arith, bytes_small l q.1)
-
-pub body_small : (bs : List ℕ) → Bytes bs → Bytes (body_of bs)
-body_small [] s = tt
-body_small (c ∷ []) s = tt
-body_small (b ∷ c ∷ bs) s = (s.0, body_small (c ∷ bs) s.1)
 
 pub take_small : (n : ℕ) (bs : List ℕ) → Bytes bs → Bytes (take n bs)
 take_small zero bs s = tt
 take_small (suc n) [] s = tt
 take_small (suc n) (b ∷ bs) s = (s.0, take_small n bs s.1)
+
+pub body_small : (bs : List ℕ) → Bytes bs → Bytes (body_of bs)
+body_small bs s = take_small (length bs - 1) bs s
 
 pub drop_small : (n : ℕ) (bs : List ℕ) → Bytes bs → Bytes (drop n bs)
 drop_small zero bs s = s
@@ -78,7 +78,7 @@ drop_small (suc n) [] s = tt
 drop_small (suc n) (b ∷ bs) s = drop_small n bs s.1
 
 -- the digits of bytes
-pub hex_good : (bs : List ℕ) → Bytes bs → all_digits (hex_of bs) ≡ true
+pub hex_good : (bs : List ℕ) → Bytes bs → list_all is_digit (hex_of bs) ≡ true
 hex_good [] s = refl
 hex_good (b ∷ bs) s =
     let small = s.0 in
@@ -92,14 +92,15 @@ bytes_back (b ∷ bs) s =
     let low = value_back (b % 16) (omega arith) in
     ap (λ x. x ∷ bytes_of (hex_of bs)) (ap (λ x. x * 16 + value_of (digit_of (b % 16))) high ∙ ap (λ x. b / 16 * 16 + x) low ∙ omega arith) ∙ ap (λ t. b ∷ t) (bytes_back bs s.1)
 
-none_bad : (i : ℕ) (l : List ℕ) → all_digits l ≡ true → first_bad i l ≡ None
-none_bad i [] a = refl
-none_bad i (b ∷ l) a = let p = and_parts (is_digit b) (all_digits l) a in cond-true _ _ _ p.0 ∙ none_bad (i + 1) l p.1
+none_bad : (l : List ℕ) → list_all is_digit l ≡ true → first_bad l ≡ None
+none_bad l a =
+    let n = position_or_len_is (λ b. not (is_digit b)) l (length l) 0 (le_refl _) (λ k h. not_from_true _ (digit_at l k a h)) (λ h. absurd (omega arith)) in
+    ap (option_map (λ i. BadByte i (get_or l i 0))) (cond-false _ _ _ (le-ltb _ (length l) (omega arith)))
 
 -- a row of digits, an even number and four at least, has no fault
-pub digits_good : (l : List ℕ) → all_digits l ≡ true → length l % 2 ≡ 0 → 4 ≤ length l → digit_fault l ≡ None
+pub digits_good : (l : List ℕ) → list_all is_digit l ≡ true → length l % 2 ≡ 0 → 4 ≤ length l → digit_fault l ≡ None
 digits_good l a e h =
-    ap (λ o. or_else o (count_fault (length l))) (none_bad 0 l a) ∙ cond-true _ _ _ (eq-eqb (length l % 2) 0 e) ∙ cond-false _ _ _ (le-ltb (length l) 4 h)
+    ap (λ o. option_or o (count_fault (length l))) (none_bad l a) ∙ cond-true _ _ _ (eq-eqb (length l % 2) 0 e) ∙ cond-false _ _ _ (le-ltb (length l) 4 h)
 
 pub good_line : (bs : List ℕ) → Bytes bs → 2 ≤ length bs → digit_fault (hex_of bs) ≡ None
 good_line bs s two = let n = length_hex_of bs in digits_good (hex_of bs) (hex_good bs s) (omega arith) (omega arith)
@@ -109,10 +110,10 @@ good_line bs s two = let n = length_hex_of bs in digits_good (hex_of bs) (hex_go
 no_feed : (b : ℕ) → is_digit b ≡ true → eqb b 10 ≡ false
 no_feed b e = grind (arith, nat_tests)
 
-pub line_back : (l r : List ℕ) → all_digits l ≡ true → line_of (l ++ 10 ∷ r) ≡ l
+pub line_back : (l r : List ℕ) → list_all is_digit l ≡ true → line_of (l ++ 10 ∷ r) ≡ l
 line_back [] r a = refl
-line_back (b ∷ l) r a = let p = and_parts (is_digit b) (all_digits l) a in cond-false _ _ _ (no_feed b p.0) ∙ ap (λ t. b ∷ t) (line_back l r p.1)
+line_back (b ∷ l) r a = let p = and_parts (is_digit b) (list_all is_digit l) a in cond-false _ _ _ (no_feed b p.0) ∙ ap (λ t. b ∷ t) (line_back l r p.1)
 
-pub behind_back : (l r : List ℕ) → all_digits l ≡ true → behind (l ++ 10 ∷ r) ≡ Some r
+pub behind_back : (l r : List ℕ) → list_all is_digit l ≡ true → behind (l ++ 10 ∷ r) ≡ Some r
 behind_back [] r a = refl
-behind_back (b ∷ l) r a = let p = and_parts (is_digit b) (all_digits l) a in cond-false _ _ _ (no_feed b p.0) ∙ behind_back l r p.1
+behind_back (b ∷ l) r a = let p = and_parts (is_digit b) (list_all is_digit l) a in cond-false _ _ _ (no_feed b p.0) ∙ behind_back l r p.1

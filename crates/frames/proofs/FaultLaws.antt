@@ -1,17 +1,20 @@
 -- Each number of a fault means what it says.
-use Rattle.std.proofs.Common.{◌≡◌, ℕ, suc, ◌+◌, ◌%◌, ◌<◌, ◌≤◌, Bool, true, false, cond, eqb, ltb, ◌⊎◌, List, [], ◌∷◌, ◌++◌, length, get_or, Some, None, Ok, Err, Option, Result, sym, refl, ap, ◌∙◌, inl, inr, zero-add, arith}
+use Rattle.std.proofs.Common.{◌≡◌, ℕ, suc, not, sum, ◌↔◌, ◌+◌, ◌%◌, ◌<◌, ◌≤◌, Bool, true, false, cond, eqb, ltb, ◌⊎◌, List, [], ◌∷◌, ◌++◌, length, get_or, Some, None, Ok, Err, Option, Result, sym, refl, ap, ◌∙◌, inl, inr, zero-add, arith}
 use Rattle.std.proofs.lemmas.List.{same_from_push, length_push}
-use Rattle.std.proofs.lemmas.Bool.{eqb-true, eqb-false, ltb-true, cond-true, cond-false, false≢true}
+use Rattle.std.proofs.lemmas.Bool.{eqb-true, eqb-false, ltb-true, cond-true, cond-false, not-true, false≢true}
 use Rattle.frames.specs.declared.frame.DigitFault.{DigitFault}
 use Rattle.frames.specs.declared.frame.DigitFault.TheVariants.{BadByte, Odd, Few}
 use Rattle.frames.specs.declared.frame.Frame.{Frame}
 use Rattle.frames.specs.declared.frame.FrameFault.{FrameFault}
 use Rattle.frames.specs.declared.frame.FrameFault.TheVariants.{Check, Kind, Field}
-use Rattle.frames.specs.Digits.{is_digit, bytes_of, first_bad, count_fault, or_else, digit_fault}
-use Rattle.frames.specs.Frames.{total, frame_bytes, said, makes_record, in_range, parsed, checked_from, body_of, framed, sealed, line_of, behind, with_rest, judged, read_frame, number_of}
-use Rattle.frames.specs.Faults.{length_of, BadDigits, WrongCheck, UnknownKind, WrongField, Refused, Exactly, FaultsStand}
+use Rattle.std.specs.List.{position_or_len}
+use Rattle.std.specs.Option.{option_map, option_or}
+use Rattle.std.proofs.lemmas.List.Sums.{passes_at_first}
+use Rattle.frames.specs.Digits.{is_digit, bytes_of, first_bad, count_fault, digit_fault}
+use Rattle.frames.specs.Frames.{frame_bytes, said, makes_record, in_range, parsed, checked_from, body_of, framed, sealed, line_of, behind, with_rest, judged, read_frame, number_of}
+use Rattle.frames.specs.Faults.{length_of, BadDigits, WrongCheck, UnknownKind, WrongField, Refused, FaultsStand}
 use Rattle.frames.proofs.HexLaws.{faultless, digit_at, length_bytes_of}
-use Rattle.frames.proofs.WordLaws.{Bytes}
+use Rattle.frames.proofs.WordLaws.{Bytes, sum-cons, body_cons}
 use Rattle.frames.proofs.DigitLaws.{some_none, ok_err, bytes_small, body_small}
 use Rattle.frames.proofs.KindLaws.{Told, told}
 use Rattle.frames.proofs.LineLaws.{framed_fits, read_exact, read_good, read_back, checked_sealed}
@@ -21,16 +24,14 @@ use Rattle.frames.proofs.LineLaws.{framed_fits, read_exact, read_good, read_back
 abbrev SomeBad : List ℕ → Type 0
 SomeBad l = (i : ℕ) × (i < length l) × (is_digit (get_or l i 0) ≡ false)
 
-bad_later : (b : ℕ) (l : List ℕ) → SomeBad l → SomeBad (b ∷ l)
-bad_later b l (i, h, e) = (suc i, omega arith, e)
-
-bad_at : (b : ℕ) (l : List ℕ) (o : Option DigitFault) (x y : DigitFault) (d : Bool) → (o ≡ Some x → SomeBad l) → is_digit b ≡ d → cond d o (Some y) ≡ Some x → SomeBad (b ∷ l)
-bad_at b l o x y true later g h = bad_later b l (later h)
-bad_at b l o x y false later g h = (0, omega arith, g)
-
-first_bad_lem : (n : ℕ) (l : List ℕ) (x : DigitFault) → first_bad n l ≡ Some x → SomeBad l
-first_bad_lem n [] x e = absurd (some_none (sym e))
-first_bad_lem n (b ∷ l) x e = bad_at b l (first_bad (n + 1) l) x (BadByte n b) (is_digit b) (first_bad_lem (n + 1) l x) refl e
+first_bad_lem : (l : List ℕ) (x : DigitFault) → first_bad l ≡ Some x → SomeBad l
+first_bad_lem l x e = at (ltb (position_or_len (λ b. not (is_digit b)) l) (length l)) refl e where
+  at : (d : Bool) → ltb (position_or_len (λ b. not (is_digit b)) l) (length l) ≡ d
+      → option_map (λ i. BadByte i (get_or l i 0)) (cond d (Some (position_or_len (λ b. not (is_digit b)) l)) None) ≡ Some x → SomeBad l
+  at true p h =
+      let inside = ltb-true _ (length l) p in
+      (position_or_len (λ b. not (is_digit b)) l, inside, not-true _ (passes_at_first (λ b. not (is_digit b)) l 0 inside))
+  at false p h = absurd (some_none (sym h))
 
 bad_count : (n : ℕ) (x : DigitFault) → count_fault n ≡ Some x → (n % 2 ≡ 1) ⊎ (n < 4)
 bad_count n x e = at (eqb (n % 2) 0) (ltb n 4) refl refl e where
@@ -42,13 +43,13 @@ bad_count n x e = at (eqb (n % 2) 0) (ltb n 4) refl refl e where
     odd_one n h = omega arith
 
 digits_bad : (t : List ℕ) (x : DigitFault) → digit_fault (line_of t) ≡ Some x → BadDigits t
-digits_bad t x e = at (first_bad 0 (line_of t)) refl e where
+digits_bad t x e = at (first_bad (line_of t)) refl e where
   count : ((length (line_of t) % 2 ≡ 1) ⊎ (length (line_of t) < 4)) → BadDigits t
   count (inl h) = inr (inl h)
   count (inr h) = inr (inr (inl h))
 
-  at : (o : Option DigitFault) → first_bad 0 (line_of t) ≡ o → or_else o (count_fault (length (line_of t))) ≡ Some x → BadDigits t
-  at (Some y) g h = inl (first_bad_lem 0 (line_of t) y g)
+  at : (o : Option DigitFault) → first_bad (line_of t) ≡ o → option_or o (count_fault (length (line_of t))) ≡ Some x → BadDigits t
+  at (Some y) g h = inl (first_bad_lem (line_of t) y g)
   at None g h = count (bad_count (length (line_of t)) x h)
 
 not_bad : (t r : List ℕ) → digit_fault (line_of t) ≡ None → behind t ≡ Some r → BadDigits t → ⊥
@@ -60,23 +61,26 @@ not_bad t r d b (inr (inr (inr none))) = some_none (sym b ∙ none)
 -- ---- the check byte
 
 -- the last byte, and what it is compared with
-last_byte : (s : ℕ) (bs : List ℕ) → 1 ≤ length bs → (c : ℕ) × (bs ≡ body_of bs ++ c ∷ []) × (checked_from s bs ≡ eqb c ((s + total (body_of bs)) % 251))
+last_byte : (s : ℕ) (bs : List ℕ) → 1 ≤ length bs → (c : ℕ) × (bs ≡ body_of bs ++ c ∷ []) × (checked_from s bs ≡ eqb c ((s + sum (body_of bs)) % 251))
 last_byte s [] h = absurd (omega arith)
 last_byte s (c ∷ []) h = (c, refl, ap (λ k. eqb c (k % 251)) (omega arith))
 last_byte s (b ∷ c ∷ bs) h =
-    let (d, e, f) = last_byte (s + b) (c ∷ bs) (omega arith) in (d, ap (λ x. b ∷ x) e, f ∙ ap (λ k. eqb d (k % 251)) (omega arith))
+    let (d, e, f) = last_byte (s + b) (c ∷ bs) (omega arith) in
+    let cut = body_cons b c bs in
+    let all = ap sum cut ∙ sum-cons b (body_of (c ∷ bs)) in
+    (d, ap (λ x. b ∷ x) e ∙ ap (λ x. x ++ d ∷ []) (sym cut), f ∙ ap (λ k. eqb d (k % 251)) (omega arith))
 
 module _ (t : List ℕ) (some : 1 ≤ length (bytes_of (line_of t))) where
   check_wrong : checked_from 0 (bytes_of (line_of t)) ≡ false → WrongCheck t
   check_wrong e =
       let (c, is, test) = last_byte 0 (bytes_of (line_of t)) some in
-      (body_of (bytes_of (line_of t)), c, is, λ h. eqb-false c _ (sym test ∙ e) (h ∙ ap (λ k. k % 251) (sym (zero-add (total (body_of (bytes_of (line_of t))))))))
+      (body_of (bytes_of (line_of t)), c, is, λ h. eqb-false c _ (sym test ∙ e) (h ∙ ap (λ k. k % 251) (sym (zero-add (sum (body_of (bytes_of (line_of t))))))))
 
   check_right : checked_from 0 (bytes_of (line_of t)) ≡ true → WrongCheck t → ⊥
   check_right e (others, check, is, wrong) =
       let (c, is', test) = last_byte 0 (bytes_of (line_of t)) some in
       let same = same_from_push others (body_of (bytes_of (line_of t))) check c (sym is ∙ is') in
-      wrong (same.1 ∙ eqb-true c _ (sym test ∙ e) ∙ ap (λ k. k % 251) (zero-add (total (body_of (bytes_of (line_of t))))) ∙ ap (λ l. total l % 251) (sym same.0))
+      wrong (same.1 ∙ eqb-true c _ (sym test ∙ e) ∙ ap (λ k. k % 251) (zero-add (sum (body_of (bytes_of (line_of t))))) ∙ ap (λ l. sum l % 251) (sym same.0))
 
 -- ---- what reading a text comes to
 
@@ -103,7 +107,7 @@ module _ (t r : List ℕ) (d : digit_fault (line_of t) ≡ None) (b : behind t �
   some_bytes = let l = length_bytes_of (line_of t) in let four = (faultless (line_of t) d).2 in omega arith
 
   whole : bytes ≡ sealed (body_of bytes)
-  whole = checked_sealed 0 bytes right ∙ ap (λ k. body_of bytes ++ (k % 251) ∷ []) (zero-add (total (body_of bytes)))
+  whole = checked_sealed 0 bytes right ∙ ap (λ k. body_of bytes ++ (k % 251) ∷ []) (zero-add (sum (body_of bytes)))
 
   not_wrong : WrongCheck t → ⊥
   not_wrong = let two = some_bytes in check_right t (omega arith) right
@@ -111,7 +115,7 @@ module _ (t r : List ℕ) (d : digit_fault (line_of t) ≡ None) (b : behind t �
   -- the kind and the fields
   module _ (k : ℕ) (fields : List ℕ) (body : body_of bytes ≡ k ∷ fields) where
     long : length bytes ≡ 2 + length fields
-    long = ap length (whole ∙ ap sealed body) ∙ length_push (k ∷ fields) (total (k ∷ fields) % 251) ∙ omega arith
+    long = ap length (whole ∙ ap sealed body) ∙ length_push (k ∷ fields) (sum (k ∷ fields) % 251) ∙ omega arith
 
     kind : get_or bytes 0 0 ≡ k
     kind = ap (λ l. get_or l 0 0) (whole ∙ ap sealed body)
@@ -173,28 +177,28 @@ refused_at n t h = at (read_frame t) refl h where
   at (Err x) e g = (x, e, g)
 
 module _ (t : List ℕ) where
-  digits_means : Outcome t → Exactly (Refused 1 t) (BadDigits t)
+  digits_means : Outcome t → Refused 1 t ↔ (BadDigits t)
   digits_means (bad_digits m p) = (λ _. p, λ _. refused_at 0 t m)
   digits_means (wrong_check m n p) = (λ h. absurd (let g = number_is 1 t h in omega arith), λ q. absurd (n q))
   digits_means (unknown_kind m n w p) = (λ h. absurd (let g = number_is 1 t h in omega arith), λ q. absurd (n q))
   digits_means (wrong_field m n w u p) = (λ h. absurd (let g = number_is 1 t h in omega arith), λ q. absurd (n q))
   digits_means (a_frame m n w u f) = (λ h. absurd (let g = number_is 1 t h in omega arith), λ q. absurd (n q))
 
-  check_means : Outcome t → Exactly (Refused 2 t) ((BadDigits t → ⊥) × WrongCheck t)
+  check_means : Outcome t → Refused 2 t ↔ ((BadDigits t → ⊥) × WrongCheck t)
   check_means (bad_digits m p) = (λ h. absurd (let g = number_is 2 t h in omega arith), λ q. absurd (q.0 p))
   check_means (wrong_check m n p) = (λ _. (n, p), λ _. refused_at 1 t m)
   check_means (unknown_kind m n w p) = (λ h. absurd (let g = number_is 2 t h in omega arith), λ q. absurd (w q.1))
   check_means (wrong_field m n w u p) = (λ h. absurd (let g = number_is 2 t h in omega arith), λ q. absurd (w q.1))
   check_means (a_frame m n w u f) = (λ h. absurd (let g = number_is 2 t h in omega arith), λ q. absurd (w q.1))
 
-  kind_means : Outcome t → Exactly (Refused 3 t) ((BadDigits t → ⊥) × (WrongCheck t → ⊥) × UnknownKind t)
+  kind_means : Outcome t → Refused 3 t ↔ ((BadDigits t → ⊥) × (WrongCheck t → ⊥) × UnknownKind t)
   kind_means (bad_digits m p) = (λ h. absurd (let g = number_is 3 t h in omega arith), λ q. absurd (q.0 p))
   kind_means (wrong_check m n p) = (λ h. absurd (let g = number_is 3 t h in omega arith), λ q. absurd (q.1 p))
   kind_means (unknown_kind m n w p) = (λ _. (n, w, p), λ _. refused_at 2 t m)
   kind_means (wrong_field m n w u p) = (λ h. absurd (let g = number_is 3 t h in omega arith), λ q. absurd (u q.2))
   kind_means (a_frame m n w u f) = (λ h. absurd (let g = number_is 3 t h in omega arith), λ q. absurd (u q.2))
 
-  field_means : Outcome t → Exactly (Refused 4 t) ((BadDigits t → ⊥) × (WrongCheck t → ⊥) × (UnknownKind t → ⊥) × WrongField t)
+  field_means : Outcome t → Refused 4 t ↔ ((BadDigits t → ⊥) × (WrongCheck t → ⊥) × (UnknownKind t → ⊥) × WrongField t)
   field_means (bad_digits m p) = (λ h. absurd (let g = number_is 4 t h in omega arith), λ q. absurd (q.0 p))
   field_means (wrong_check m n p) = (λ h. absurd (let g = number_is 4 t h in omega arith), λ q. absurd (q.1 p))
   field_means (unknown_kind m n w p) = (λ h. absurd (let g = number_is 4 t h in omega arith), λ q. absurd (q.2 p))

@@ -5,5 +5,4 @@ pub mod KindLaws
 pub mod FrameLaws
 pub mod LineLaws
 pub mod WriteLaws
-pub mod AnswerLaws
 pub mod FaultLaws

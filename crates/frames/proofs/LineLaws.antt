@@ -1,7 +1,8 @@
 -- An accepted line is the line of its frame, and the line of a good frame is accepted.
-use Rattle.std.proofs.Common.{◌≡◌, ℕ, suc, ◌+◌, ◌%◌, ◌^◌, ◌<◌, ◌≤◌, Bool, true, false, cond, eqb, ◌⊎◌, List, [], ◌∷◌, ◌++◌, length, Some, None, Ok, Err, Option, Result, sym, refl, ap, ◌∙◌, inl, inr, mod-eq_of_lt, zero-add, arith}
+use Rattle.std.proofs.Common.{◌≡◌, ℕ, suc, sum, ◌-◌, ◌+◌, ◌%◌, ◌^◌, ◌<◌, ◌≤◌, Bool, true, false, cond, eqb, List, [], ◌∷◌, ◌++◌, length, Some, None, Ok, Err, Option, Result, sym, refl, ap, ◌∙◌, mod-eq_of_lt, zero-add, arith}
+use Rattle.std.specs.List.{list_all}
 use Rattle.std.specs.Option.{option_map}
-use Rattle.std.proofs.lemmas.List.{append_assoc}
+use Rattle.std.proofs.lemmas.List.{append_assoc, length_push, take_at}
 use Rattle.std.proofs.lemmas.Bool.{eqb-true, eq-eqb, cond-true, false≢true}
 use Rattle.literals.specs.declared.literal_set.LiteralSet.{LiteralSet}
 use Rattle.literals.specs.declared.condition.Condition.{Condition}
@@ -10,12 +11,12 @@ use Rattle.frames.specs.declared.frame.DigitFault.{DigitFault}
 use Rattle.frames.specs.declared.frame.Frame.{Frame}
 use Rattle.frames.specs.declared.frame.Frame.TheVariants.{Rule, RankStep, Wish, Alternative, End, Fit}
 use Rattle.frames.specs.declared.frame.FrameFault.{FrameFault}
-use Rattle.frames.specs.declared.frame.FrameFault.TheVariants.{Digits, Check, Field}
-use Rattle.frames.specs.Digits.{hex_of, bytes_of, digit_fault}
-use Rattle.frames.specs.Frames.{word_of, word_bytes, set_of, set_bytes, condition_of, condition_bytes, total, sealed, frame_bytes, line_for, said, makes_record, in_range, parsed, checked_from, body_of, framed, after_digits, frame_of, line_of, behind, unended, judged, read_frame, SetFits, ConditionFits, FrameFits, Good, line_length}
+use Rattle.frames.specs.declared.frame.FrameFault.TheVariants.{Check, Field}
+use Rattle.frames.specs.Digits.{is_digit, hex_of, bytes_of, digit_fault}
+use Rattle.frames.specs.Frames.{word_of, word_bytes, set_of, set_bytes, condition_of, condition_bytes, sealed, frame_bytes, line_for, said, makes_record, in_range, parsed, checked_from, body_of, framed, line_of, behind, judged, read_frame, SetFits, ConditionFits, FrameFits, Good}
 use Rattle.frames.specs.Faults.{length_of}
 use Rattle.frames.proofs.HexLaws.{faultless}
-use Rattle.frames.proofs.WordLaws.{Bytes, bytes_append, word_bytes_bytes, word_of_bytes}
+use Rattle.frames.proofs.WordLaws.{Bytes, sum-cons, body_cons, bytes_append, word_bytes_bytes, word_of_bytes}
 use Rattle.frames.proofs.DigitLaws.{some_none, some_same, ok_err, ok_same, hex_back, bytes_small, body_small, hex_good, bytes_back, good_line, line_back, behind_back}
 use Rattle.frames.proofs.KindLaws.{Told, told}
 
@@ -36,11 +37,14 @@ parsed_exact : (body : List ℕ) (f : Frame) → Bytes body → parsed body ≡ 
 parsed_exact [] f s h = absurd (ok_err (sym h))
 parsed_exact (k ∷ fields) f s h = told_ok k fields f (said k fields) (length_of k) (told k fields s.1) h
 
-pub checked_sealed : (s : ℕ) (bs : List ℕ) → checked_from s bs ≡ true → bs ≡ body_of bs ++ ((s + total (body_of bs)) % 251) ∷ []
+pub checked_sealed : (s : ℕ) (bs : List ℕ) → checked_from s bs ≡ true → bs ≡ body_of bs ++ ((s + sum (body_of bs)) % 251) ∷ []
 checked_sealed s [] e = absurd (false≢true e)
 checked_sealed s (c ∷ []) e = ap (λ x. x ∷ []) (eqb-true c (s % 251) e ∙ ap (λ k. k % 251) (omega arith))
 checked_sealed s (b ∷ c ∷ bs) e =
+    let cut = body_cons b c bs in
+    let all = ap sum cut ∙ sum-cons b (body_of (c ∷ bs)) in
     ap (λ t. b ∷ t) (checked_sealed (s + b) (c ∷ bs) e) ∙ ap (λ k. b ∷ (body_of (c ∷ bs) ++ (k % 251) ∷ [])) (omega arith)
+    ∙ ap (λ l. l ++ ((s + sum (body_of (b ∷ c ∷ bs))) % 251) ∷ []) (sym cut)
 
 check_ok : (d : Bool) (r : Result Frame FrameFault) (f : Frame) → cond d r (Err Check) ≡ Ok f → (d ≡ true) × (r ≡ Ok f)
 check_ok true r f h = (refl, h)
@@ -50,23 +54,7 @@ pub framed_exact : (bs : List ℕ) (f : Frame) → Bytes bs → framed bs ≡ Ok
 framed_exact bs f s h =
     let p = check_ok (checked_from 0 bs) (parsed (body_of bs)) f h in
     let q = parsed_exact (body_of bs) f (body_small bs s) p.1 in
-    (q.0 ∙ ap (λ k. body_of bs ++ (k % 251) ∷ []) (sym (zero-add (total (body_of bs)))) ∙ sym (checked_sealed 0 bs p.0), q.1)
-
-digits_ok : (o : Option DigitFault) (r : Result Frame FrameFault) (f : Frame) → after_digits o r ≡ Ok f → (o ≡ None) × (r ≡ Ok f)
-digits_ok (Some d) r f h = absurd (ok_err (sym h))
-digits_ok None r f h = (refl, h)
-
--- an accepted line is that of its frame
-pub frame_of_exact : (line : List ℕ) (f : Frame) → frame_of line ≡ Ok f → hex_of (frame_bytes f) ≡ line
-frame_of_exact line f e =
-    let p = digits_ok (digit_fault line) (framed (bytes_of line)) f e in
-    let good = faultless line p.0 in
-    ap hex_of (framed_exact (bytes_of line) f (bytes_small line good.0) p.1).0 ∙ hex_back line good.0 good.1
-
-pub frame_of_good : (line : List ℕ) (f : Frame) → frame_of line ≡ Ok f → Good f
-frame_of_good line f e =
-    let p = digits_ok (digit_fault line) (framed (bytes_of line)) f e in
-    (framed_exact (bytes_of line) f (bytes_small line (faultless line p.0).0) p.1).1
+    (q.0 ∙ ap (λ k. body_of bs ++ (k % 251) ∷ []) (sym (zero-add (sum (body_of bs)))) ∙ sym (checked_sealed 0 bs p.0), q.1)
 
 -- ---- lines in a text
 
@@ -87,64 +75,52 @@ pub line_split : (t r : List ℕ) → behind t ≡ Some r → t ≡ line_of t ++
 line_split [] r e = absurd (some_none (sym e))
 line_split (b ∷ t) r e = split_at (eqb b 10) b t r (eqb-true b 10) (line_split t r) e
 
-whole_at : (d : Bool) (b : ℕ) (t : List ℕ) → (behind t ≡ None → line_of t ≡ t) → cond d (Some t) (behind t) ≡ None → cond d [] (b ∷ line_of t) ≡ b ∷ t
-whole_at true b t ih e = absurd (some_none e)
-whole_at false b t ih e = ap (λ x. b ∷ x) (ih e)
-
--- a text without a line feed is one line
-pub line_whole : (t : List ℕ) → behind t ≡ None → line_of t ≡ t
-line_whole [] e = refl
-line_whole (b ∷ t) e = whole_at (eqb b 10) b t (line_whole t) e
-
-pub judged_ok : (d : Option DigitFault) (o : Option (List ℕ)) (b : Result Frame FrameFault) (f : Frame) (r : List ℕ) → judged d o b ≡ Ok (f, r) → (o ≡ Some r) × (after_digits d b ≡ Ok f)
+judged_ok : (d : Option DigitFault) (o : Option (List ℕ)) (b : Result Frame FrameFault) (f : Frame) (r : List ℕ) → judged d o b ≡ Ok (f, r) → (d ≡ None) × (o ≡ Some r) × (b ≡ Ok f)
 judged_ok (Some d) o b f r e = absurd (ok_err (sym e))
 judged_ok None None b f r e = absurd (ok_err (sym e))
-judged_ok None (Some rest) (Ok g) f r e = let p = ok_same e in (ap (λ x. Some x.1) p, ap (λ x. Ok x.0) p)
+judged_ok None (Some rest) (Ok g) f r e = let p = ok_same e in (refl, ap (λ x. Some x.1) p, ap (λ x. Ok x.0) p)
 judged_ok None (Some rest) (Err x) f r e = absurd (ok_err (sym e))
 
-pub judged_err : (d : Option DigitFault) (o : Option (List ℕ)) (b : Result Frame FrameFault) (x : FrameFault) → judged d o b ≡ Err x → ((o ≡ None) × (x ≡ Digits (unended d))) ⊎ ((r : List ℕ) × (o ≡ Some r) × (after_digits d b ≡ Err x))
-judged_err (Some d) None b x e = inl (refl, cc)
-judged_err (Some d) (Some r) b x e = inr (r, refl, cc)
-judged_err None None b x e = inl (refl, cc)
-judged_err None (Some rest) (Ok g) x e = absurd (ok_err e)
-judged_err None (Some rest) (Err y) x e = inr (rest, refl, cc)
+-- what is read stands at the front of the text, and is good
+module _ (t : List ℕ) (f : Frame) (r : List ℕ) (e : read_frame t ≡ Ok (f, r)) where
+  parts : (digit_fault (line_of t) ≡ None) × (behind t ≡ Some r) × (framed (bytes_of (line_of t)) ≡ Ok f)
+  parts = judged_ok (digit_fault (line_of t)) (behind t) (framed (bytes_of (line_of t))) f r e
 
-pub read_ok : (t : List ℕ) (f : Frame) (r : List ℕ) → read_frame t ≡ Ok (f, r) → (behind t ≡ Some r) × (frame_of (line_of t) ≡ Ok f)
-read_ok t f r e = judged_ok (digit_fault (line_of t)) (behind t) (framed (bytes_of (line_of t))) f r e
+  digits : (list_all is_digit (line_of t) ≡ true) × (length (line_of t) % 2 ≡ 0) × (4 ≤ length (line_of t))
+  digits = faultless (line_of t) parts.0
 
-pub read_err : (t : List ℕ) (x : FrameFault) → read_frame t ≡ Err x → ((behind t ≡ None) × (x ≡ Digits (unended (digit_fault (line_of t))))) ⊎ ((r : List ℕ) × (behind t ≡ Some r) × (frame_of (line_of t) ≡ Err x))
-read_err t x e = judged_err (digit_fault (line_of t)) (behind t) (framed (bytes_of (line_of t))) x e
+  exact : (frame_bytes f ≡ bytes_of (line_of t)) × Good f
+  exact = framed_exact (bytes_of (line_of t)) f (bytes_small (line_of t) digits.0) parts.2
 
--- what is read stands at the front of the text
-pub read_exact : (t : List ℕ) (f : Frame) (r : List ℕ) → read_frame t ≡ Ok (f, r) → t ≡ line_for f ++ r
-read_exact t f r e =
-    let p = read_ok t f r e in
-    line_split t r p.0 ∙ ap (λ l. l ++ 10 ∷ r) (sym (frame_of_exact (line_of t) f p.1)) ∙ sym (append_assoc (hex_of (frame_bytes f)) (10 ∷ []) r)
+  pub read_exact : t ≡ line_for f ++ r
+  read_exact =
+      line_split t r parts.1 ∙ ap (λ l. l ++ 10 ∷ r) (sym (ap hex_of exact.0 ∙ hex_back (line_of t) digits.0 digits.1))
+      ∙ sym (append_assoc (hex_of (frame_bytes f)) (10 ∷ []) r)
 
-pub read_good : (t : List ℕ) (f : Frame) (r : List ℕ) → read_frame t ≡ Ok (f, r) → Good f
-read_good t f r e = frame_of_good (line_of t) f (read_ok t f r e).1
+  pub read_good : Good f
+  read_good = exact.1
 
 -- ---- the line of a frame
 
 body_back : (body : List ℕ) (c : ℕ) → body_of (body ++ c ∷ []) ≡ body
-body_back [] c = refl
-body_back (b ∷ []) c = refl
-body_back (b ∷ d ∷ body) c = ap (λ t. b ∷ t) (body_back (d ∷ body) c)
+body_back body c = let long = length_push body c in take_at body (c ∷ []) (length (body ++ c ∷ []) - 1) (omega arith)
 
-sealed_checked : (s : ℕ) (body : List ℕ) → checked_from s (body ++ ((s + total body) % 251) ∷ []) ≡ true
+sealed_checked : (s : ℕ) (body : List ℕ) → checked_from s (body ++ ((s + sum body) % 251) ∷ []) ≡ true
 sealed_checked s [] = eq-eqb _ _ (ap (λ k. k % 251) (omega arith))
 sealed_checked s (b ∷ []) = eq-eqb _ _ (ap (λ k. k % 251) (omega arith))
-sealed_checked s (b ∷ d ∷ body) = ap (λ k. checked_from (s + b) (d ∷ (body ++ (k % 251) ∷ []))) (omega arith) ∙ sealed_checked (s + b) (d ∷ body)
+sealed_checked s (b ∷ d ∷ body) =
+    let all = sum-cons b (d ∷ body) in
+    ap (λ k. checked_from (s + b) (d ∷ (body ++ (k % 251) ∷ []))) (omega arith) ∙ sealed_checked (s + b) (d ∷ body)
 
 framed_sealed : (body : List ℕ) → framed (sealed body) ≡ parsed body
 framed_sealed body =
-    cond-true _ _ _ (ap (λ k. checked_from 0 (body ++ (k % 251) ∷ [])) (sym (zero-add (total body))) ∙ sealed_checked 0 body) ∙ ap parsed (body_back body (total body % 251))
+    cond-true _ _ _ (ap (λ k. checked_from 0 (body ++ (k % 251) ∷ [])) (sym (zero-add (sum body))) ∙ sealed_checked 0 body) ∙ ap parsed (body_back body (sum body % 251))
 
 total_small : (n : ℕ) → n % 251 < 256
 total_small n = omega arith
 
 sealed_bytes : (body : List ℕ) → Bytes body → Bytes (sealed body)
-sealed_bytes body s = bytes_append body (total body % 251 ∷ []) s (total_small (total body), tt)
+sealed_bytes body s = bytes_append body (sum body % 251 ∷ []) s (total_small (sum body), tt)
 
 set_bytes_lem : (s : LiteralSet) → Bytes (set_bytes s)
 set_bytes_lem s = bytes_append (word_bytes 8 s.plus) (word_bytes 8 s.minus) (word_bytes_bytes 8 s.plus) (word_bytes_bytes 8 s.minus)
@@ -162,17 +138,6 @@ frame_bytes_lem (Wish body) g = sealed_bytes (17 ∷ condition_bytes body) (omeg
 frame_bytes_lem (Alternative level condition) g = sealed_bytes (18 ∷ level ∷ condition_bytes condition) (omega arith, (g.0, condition_bytes_lem condition))
 frame_bytes_lem (End n) g = sealed_bytes (32 ∷ word_bytes 2 n) (omega arith, word_bytes_bytes 2 n)
 frame_bytes_lem (Fit set) g = sealed_bytes (48 ∷ set_bytes set) (omega arith, set_bytes_lem set)
-
--- the length of a line by kind
-pub line_long : (f : Frame) → length (line_for f) ≡ line_length f
-line_long (Rule (Plain code body)) = refl
-line_long (Rule (Constraint body)) = refl
-line_long (Rule (Choice least greatest head body)) = refl
-line_long RankStep = refl
-line_long (Wish body) = refl
-line_long (Alternative level condition) = refl
-line_long (End n) = refl
-line_long (Fit set) = refl
 
 pub frame_long : (f : Frame) → 2 ≤ length (frame_bytes f)
 frame_long (Rule (Plain code body)) = omega arith

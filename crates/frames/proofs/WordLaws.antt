@@ -1,8 +1,10 @@
 -- Words and their bytes.
-use Rattle.std.proofs.Common.{◌≡◌, ℕ, zero, suc, ◌+◌, ◌*◌, ◌/◌, ◌%◌, ◌^◌, ◌<◌, List, [], ◌∷◌, ◌++◌, length, sym, refl, ap, ◌∙◌, mul_assoc, arith}
+use Rattle.std.proofs.Common.{◌≡◌, ℕ, zero, suc, sum, ◌+◌, ◌*◌, ◌/◌, ◌%◌, ◌^◌, ◌<◌, ◌≤◌, ◌-◌, List, [], ◌∷◌, ◌++◌, length, take, drop, sym, refl, ap, ◌∙◌, mul_assoc, arith}
 use native.Mathlib.Nat.{pow-succ', mul-add-div_right}
+use Rattle.std.proofs.lemmas.List.Sums.{sum_by-cons}
+use Rattle.std.proofs.lemmas.List.{take_all}
 use lib.Arith.{digits_lt, digits_div, mod-mul}
-use Rattle.frames.specs.Frames.{word_of, word_bytes}
+use Rattle.frames.specs.Frames.{word_of, word_bytes, body_of}
 
 abbrev pub Bytes : List ℕ → Type 0
 Bytes [] = Unit {0}
@@ -11,6 +13,13 @@ Bytes (b ∷ bs) = (b < 256) × Bytes bs
 pub bytes_append : (xs ys : List ℕ) → Bytes xs → Bytes ys → Bytes (xs ++ ys)
 bytes_append [] ys p q = q
 bytes_append (x ∷ xs) ys p q = (p.0, bytes_append xs ys p.1 q)
+
+pub sum-cons : (b : ℕ) (bs : List ℕ) → sum (b ∷ bs) ≡ b + sum bs
+sum-cons b bs = sum_by-cons (λ x. x) b bs
+
+-- all but the last, of two or more
+pub body_cons : (b c : ℕ) (bs : List ℕ) → body_of (b ∷ c ∷ bs) ≡ b ∷ body_of (c ∷ bs)
+body_cons b c bs = let n : suc (suc (length bs)) - 1 ≡ suc (suc (length bs) - 1) = omega arith in ap (λ k. take k (b ∷ c ∷ bs)) n
 
 pub power_positive : (n : ℕ) → 0 < 256 ^ n
 power_positive zero = omega arith
@@ -63,3 +72,15 @@ be_pair w bs e = e ∙ ap (λ x. (w / 256 % 256) ∷ x ∷ []) (omega arith)
 
 pub be_four : (w : ℕ) (bs : List ℕ) → bs ≡ (w / 16777216 % 256) ∷ (w / 65536 % 256) ∷ (w / 256 % 256) ∷ (w % 256) ∷ [] → bs ≡ word_bytes 4 w
 be_four w bs e = e ∙ ap (λ x. (w / 16777216 % 256) ∷ (w / 65536 % 256) ∷ (w / 256 % 256) ∷ x ∷ []) (omega arith)
+
+-- the lowest n bytes of a word
+drop_word : (k n w : ℕ) → drop k (word_bytes (k + n) w) ≡ word_bytes n w
+drop_word zero n w = let e : 0 + n ≡ n = omega arith in ap (λ m. word_bytes m w) e
+drop_word (suc k) n w = let e : suc k + n ≡ suc (k + n) = omega arith in ap (λ m. drop (suc k) (word_bytes m w)) e ∙ drop_word k n w
+
+pub low_bytes : (n w : ℕ) (bs : List ℕ) → n ≤ 8 → bs ≡ word_bytes 8 w → take (8 - (8 - n)) (drop (8 - n) bs) ≡ word_bytes n w
+low_bytes n w bs h e =
+    let eight : 8 ≡ 8 - n + n = omega arith in
+    let all : word_bytes 8 w ≡ word_bytes (8 - n + n) w = ap (λ m. word_bytes m w) eight in
+    let long = length_word_bytes n w in
+    ap (λ b. take (8 - (8 - n)) (drop (8 - n) b)) (e ∙ all) ∙ ap (take (8 - (8 - n))) (drop_word (8 - n) n w) ∙ take_all (8 - (8 - n)) (word_bytes n w) (omega arith)

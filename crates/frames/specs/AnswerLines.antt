@@ -1,6 +1,6 @@
 -- The lines of answers: rows, "more remain", refusals.
-use Rattle.std.specs.Prelude.{ℕ, Bool, true, cond, ◌&&◌, List, [], ◌∷◌, length, Err, Result, nat_le}
-use Rattle.std.specs.List.{flat_map}
+use Rattle.std.specs.Prelude.{ℕ, Bool, ◌&&◌, if◌then◌else◌, List, [], ◌∷◌, length, Err, Result, nat_le}
+use Rattle.std.specs.List.{flat_map, list_all}
 use Rattle.std.specs.Option.{ok_or}
 use Rattle.frames.specs.declared.answer_frames.WriteFault.{WriteFault}
 use Rattle.frames.specs.declared.answer_frames.WriteFault.TheVariants.{TooWide, BufferShort}
@@ -28,14 +28,9 @@ abbrev pub write_fault_line : WriteFault → ℕ
 write_fault_line TooWide = 0
 write_fault_line BufferShort = 0
 
--- Every column is a number of two bytes.
-abbrev pub all_narrow : List ℕ → Bool
-all_narrow [] = true
-all_narrow (c ∷ cs) = nat_le c 65535 && all_narrow cs
-
 -- At most 255 columns, each of two bytes.
 abbrev pub narrow : List ℕ → Bool
-narrow columns = nat_le (length columns) 255 && all_narrow columns
+narrow columns = nat_le (length columns) 255 && list_all (λ c. nat_le c 65535) columns
 
 -- What writing a line into a buffer gives: its length, or that there is no room.
 abbrev pub wrote : List ℕ → List ℕ → Result ℕ WriteFault
@@ -43,8 +38,8 @@ wrote line out = ok_or (wrote_in line out) BufferShort
 
 -- What writing a row gives: too wide a row is refused first.
 abbrev pub wrote_row : List ℕ → List ℕ → Result ℕ WriteFault
-wrote_row columns out = cond (narrow columns) (wrote (row_line columns) out) (Err TooWide)
+wrote_row columns out = if narrow columns then wrote (row_line columns) out else Err TooWide
 
 -- A buffer after a row was to be written: a refusal changes nothing.
 abbrev pub row_written_in : List ℕ → List ℕ → List ℕ
-row_written_in columns out = cond (narrow columns) (written_in (row_line columns) out) out
+row_written_in columns out = if narrow columns then written_in (row_line columns) out else out

@@ -1,5 +1,5 @@
 -- Frames: a kind, fixed fields, and a check byte, which is the sum of the other bytes modulo 251.
-use Rattle.std.specs.Prelude.{◌≡◌, ℕ, zero, suc, ◌+◌, ◌*◌, ◌/◌, ◌%◌, ◌^◌, ◌<◌, Bool, true, false, cond, List, [], ◌∷◌, ◌++◌, length, take, drop, Some, None, Ok, Err, Option, Result, ◌==◌, nat_lt}
+use Rattle.std.specs.Prelude.{◌≡◌, ℕ, zero, suc, ◌+◌, ◌-◌, ◌*◌, ◌/◌, ◌%◌, ◌^◌, ◌<◌, Bool, true, false, if◌then◌else◌, List, [], ◌∷◌, ◌++◌, length, take, drop, Some, None, Ok, Err, Option, Result, ◌==◌, nat_lt, sum}
 use Rattle.std.specs.Option.{option_map}
 use Rattle.literals.specs.declared.literal_set.LiteralSet.{LiteralSet}
 use Rattle.literals.specs.declared.condition.Condition.{Condition}
@@ -35,25 +35,24 @@ set_bytes s = word_bytes 8 s.plus ++ word_bytes 8 s.minus
 
 -- A condition: exactly four words, wanted plus and minus, absent plus and minus.
 abbrev pub condition_of : List ℕ → Option Condition
-condition_of bs = cond (length bs == 32) (Some (record { wanted = set_of (take 16 bs); absent = set_of (drop 16 bs) })) None
+condition_of bs =
+    if length bs == 32 then Some (record { wanted = set_of (take 16 bs); absent = set_of (drop 16 bs) })
+    else None
 
 abbrev pub condition_bytes : Condition → List ℕ
 condition_bytes c = set_bytes c.wanted ++ set_bytes c.absent
 
 -- ---- frames as bytes
 
-abbrev pub total : List ℕ → ℕ
-total [] = 0
-total (b ∷ bs) = b + total bs
-
 -- A frame's bytes, of kind and fields: the check byte behind them.
 abbrev pub sealed : List ℕ → List ℕ
-sealed body = body ++ (total body % 251) ∷ []
+sealed body = body ++ (sum body % 251) ∷ []
 
 abbrev pub rule_bytes : RuleRow → List ℕ
 rule_bytes (Plain code body) = sealed (1 ∷ code ∷ condition_bytes body)
 rule_bytes (Constraint body) = sealed (2 ∷ condition_bytes body)
-rule_bytes (Choice least greatest head body) = sealed (3 ∷ least ∷ greatest ∷ (set_bytes head ++ condition_bytes body))
+rule_bytes (Choice least greatest head body) =
+    sealed (3 ∷ least ∷ greatest ∷ (set_bytes head ++ condition_bytes body))
 
 abbrev pub frame_bytes : Frame → List ℕ
 frame_bytes (Rule row) = rule_bytes row
@@ -80,7 +79,8 @@ plain_of (code ∷ rest) = option_map (λ body. Rule (Plain code body)) (conditi
 abbrev pub choice_of : List ℕ → Option Frame
 choice_of [] = None
 choice_of (least ∷ []) = None
-choice_of (least ∷ greatest ∷ rest) = option_map (λ body. Rule (Choice least greatest (set_of (take 16 rest)) body)) (condition_of (drop 16 rest))
+choice_of (least ∷ greatest ∷ rest) =
+    option_map (λ body. Rule (Choice least greatest (set_of (take 16 rest)) body)) (condition_of (drop 16 rest))
 
 abbrev pub rank_step_of : List ℕ → Option Frame
 rank_step_of [] = Some RankStep
@@ -91,17 +91,23 @@ alternative_of [] = None
 alternative_of (level ∷ rest) = option_map (λ c. Alternative level c) (condition_of rest)
 
 abbrev pub end_of : List ℕ → Option Frame
-end_of fields = cond (length fields == 2) (Some (End (word_of fields))) None
+end_of fields = if length fields == 2 then Some (End (word_of fields)) else None
 
 abbrev pub fit_of : List ℕ → Option Frame
-fit_of fields = cond (length fields == 16) (Some (Fit (set_of fields))) None
+fit_of fields = if length fields == 16 then Some (Fit (set_of fields)) else None
 
 -- What a kind and its fields say; nothing where the kind is unknown or the length is not its own.
 abbrev pub said : ℕ → List ℕ → Option Frame
 said kind fields =
-    cond (kind == 1) (plain_of fields) (cond (kind == 2) (option_map (λ body. Rule (Constraint body)) (condition_of fields)) (cond (kind == 3) (choice_of fields)
-    (cond (kind == 16) (rank_step_of fields) (cond (kind == 17) (option_map Wish (condition_of fields)) (cond (kind == 18) (alternative_of fields)
-    (cond (kind == 32) (end_of fields) (cond (kind == 48) (fit_of fields) None)))))))
+    if kind == 1 then plain_of fields
+    else if kind == 2 then option_map (λ body. Rule (Constraint body)) (condition_of fields)
+    else if kind == 3 then choice_of fields
+    else if kind == 16 then rank_step_of fields
+    else if kind == 17 then option_map Wish (condition_of fields)
+    else if kind == 18 then alternative_of fields
+    else if kind == 32 then end_of fields
+    else if kind == 48 then fit_of fields
+    else None
 
 -- Whether the row of a frame makes a record.
 abbrev pub makes_record : Frame → Bool
@@ -115,12 +121,16 @@ makes_record (Fit set) = makes_fit set
 -- The fields are judged after the kind and the length.
 abbrev pub in_range : Option Frame → Result Frame FrameFault
 in_range None = Err Kind
-in_range (Some f) = cond (makes_record f) (Ok f) (Err Field)
+in_range (Some f) = if makes_record f then Ok f else Err Field
+
+-- What a frame's bytes but the last say.
+abbrev pub said_by : List ℕ → Option Frame
+said_by [] = None
+said_by (kind ∷ fields) = said kind fields
 
 -- The frame of a kind and its fields.
 abbrev pub parsed : List ℕ → Result Frame FrameFault
-parsed [] = Err Kind
-parsed (kind ∷ fields) = in_range (said kind fields)
+parsed body = in_range (said_by body)
 
 -- Whether the last byte is the sum of `sum` and the others, modulo 251.
 abbrev pub checked_from : ℕ → List ℕ → Bool
@@ -130,45 +140,31 @@ checked_from sum (b ∷ c ∷ bs) = checked_from (sum + b) (c ∷ bs)
 
 -- All but the last.
 abbrev pub body_of : List ℕ → List ℕ
-body_of [] = []
-body_of (c ∷ []) = []
-body_of (b ∷ c ∷ bs) = b ∷ body_of (c ∷ bs)
+body_of bs = take (length bs - 1) bs
 
 -- The frame of its bytes, check byte included.
 abbrev pub framed : List ℕ → Result Frame FrameFault
-framed bs = cond (checked_from 0 bs) (parsed (body_of bs)) (Err Check)
+framed bs = if checked_from 0 bs then parsed (body_of bs) else Err Check
 
 -- ---- the frame of a line
-
-abbrev pub after_digits : Option DigitFault → Result Frame FrameFault → Result Frame FrameFault
-after_digits (Some d) bytes = Err (Digits d)
-after_digits None bytes = bytes
-
--- The frame of a line's digits.
-abbrev pub frame_of : List ℕ → Result Frame FrameFault
-frame_of line = after_digits (digit_fault line) (framed (bytes_of line))
 
 -- The line at the front of a text, without its line feed.
 abbrev pub line_of : List ℕ → List ℕ
 line_of [] = []
-line_of (b ∷ t) = cond (b == 10) [] (b ∷ line_of t)
+line_of (b ∷ t) = if b == 10 then [] else b ∷ line_of t
 
 -- What stands behind the first line feed, where there is one.
 abbrev pub behind : List ℕ → Option (List ℕ)
 behind [] = None
-behind (b ∷ t) = cond (b == 10) (Some t) (behind t)
-
--- The fault of a line that no line feed ends.
-abbrev pub unended : Option DigitFault → DigitFault
-unended (Some d) = d
-unended None = NoLineFeed
+behind (b ∷ t) = if b == 10 then Some t else behind t
 
 abbrev pub with_rest : List ℕ → Result Frame FrameFault → Result (Frame × List ℕ) FrameFault
 with_rest rest (Ok f) = Ok (f, rest)
 with_rest rest (Err e) = Err e
 
 -- A line's digits are judged first, then its line feed, then its bytes.
-abbrev pub judged : Option DigitFault → Option (List ℕ) → Result Frame FrameFault → Result (Frame × List ℕ) FrameFault
+abbrev pub judged
+    : Option DigitFault → Option (List ℕ) → Result Frame FrameFault → Result (Frame × List ℕ) FrameFault
 judged (Some d) after bytes = Err (Digits d)
 judged None None bytes = Err (Digits NoLineFeed)
 judged None (Some rest) bytes = with_rest rest bytes
@@ -195,7 +191,8 @@ ConditionFits c = SetFits c.wanted × SetFits c.absent
 abbrev pub RuleFits : RuleRow → Type 0
 RuleFits (Plain code body) = (code < 256) × ConditionFits body
 RuleFits (Constraint body) = ConditionFits body
-RuleFits (Choice least greatest head body) = (least < 256) × (greatest < 256) × SetFits head × ConditionFits body
+RuleFits (Choice least greatest head body) =
+    (least < 256) × (greatest < 256) × SetFits head × ConditionFits body
 
 -- The numbers of a frame fit their types.
 abbrev pub FrameFits : Frame → Type 0
@@ -214,7 +211,7 @@ Good f = FrameFits f × (makes_record f ≡ true)
 
 -- What writing a line into a buffer gives: its length, where there is room.
 abbrev pub wrote_in : List ℕ → List ℕ → Option ℕ
-wrote_in line out = cond (nat_lt (length out) (length line)) None (Some (length line))
+wrote_in line out = if nat_lt (length out) (length line) then None else Some (length line)
 
 -- A buffer with a line written at its front.
 abbrev pub overwritten : List ℕ → List ℕ → List ℕ
@@ -222,18 +219,4 @@ overwritten line out = line ++ drop (length line) out
 
 -- A buffer after a line was to be written: as it was where there is no room.
 abbrev pub written_in : List ℕ → List ℕ → List ℕ
-written_in line out = cond (nat_lt (length out) (length line)) out (overwritten line out)
-
--- The length of a line, two digits a byte and a line feed.
-abbrev pub rule_length : RuleRow → ℕ
-rule_length (Plain code body) = 71
-rule_length (Constraint body) = 69
-rule_length (Choice least greatest head body) = 105
-
-abbrev pub line_length : Frame → ℕ
-line_length (Rule row) = rule_length row
-line_length RankStep = 5
-line_length (Wish body) = 69
-line_length (Alternative level condition) = 71
-line_length (End count) = 9
-line_length (Fit set) = 37
+written_in line out = if nat_lt (length out) (length line) then out else overwritten line out

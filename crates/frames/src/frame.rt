@@ -5,7 +5,7 @@ ghost use Rattle.frames.specs.Faults.{FaultsStand};
 ghost use Rattle.frames.specs.Frames.{makes_record, number_of};
 
 use literals::{Condition, LiteralSet};
-use tables::RuleRow;
+use tables::{Row, RuleRow};
 
 // What one line of a text says.
 #[derive(Clone, Copy, PartialEq, Eq, Debug)]
@@ -55,7 +55,8 @@ impl From<DigitFault> for FrameFault {
 }
 
 impl FrameFault {
-    // The number of the refusal. A line is refused with a number exactly when it has the fault of that number and none before it.
+    // The number of the refusal; it has no line of its own, so it is no `Numbered`. A line is refused with a number exactly when it
+    // has the fault of that number and none before it.
     pub fn number(self) -> u8
         ensures number { result ≡ number_of self }
         ensures meaning { (t : List ℕ) → FaultsStand t }
@@ -70,17 +71,14 @@ impl FrameFault {
 }
 
 impl Frame {
-    // Whether the row of the frame makes a record.
+    // Whether the row of the frame makes a record. An alternative's frame has no row until its wish is known, so its level is judged.
     pub fn makes_record(&self) -> bool
         ensures { result ≡ makes_record self.now }
     {
         match self {
-            Frame::Rule(row) => row.makes_rule(),
-            Frame::Alternative {
-                level,
-                condition: _,
-            } => 1 <= *level && *level <= 8,
-            Frame::Fit(set) => set.is_consistent(),
+            Frame::Rule(row) => row.makes_record(),
+            Frame::Alternative { level, .. } => (1..=8).contains(level),
+            Frame::Fit(set) => set.makes_record(),
             Frame::RankStep | Frame::Wish(_) | Frame::End(_) => true,
         }
     }

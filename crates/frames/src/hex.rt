@@ -1,8 +1,82 @@
 // Hexadecimal digits and the bytes that they write.
-ghost use Rattle.std.specs.Prelude.{◌≡◌, ◌+◌, ◌*◌, ◌<◌, ◌≤◌, true, ◌++◌, length, drop, Some, None, MatchResult};
-ghost use Rattle.frames.specs.Digits.{is_digit, value_of, digit_of, all_digits, bytes_of, hex_of, digit_fault};
+ghost use Rattle.std.specs.Prelude.{◌≡◌, ◌+◌, ◌*◌, ◌<◌, ◌≤◌, true, not, [], ◌∷◌, ◌++◌, length, position, None};
+ghost use Rattle.frames.specs.Digits.{is_digit, value_of, digit_of, hex_of, digit_fault};
 
 use crate::frame::DigitFault;
+use arrayvec::ArrayVec;
+
+// A line of good digits, an even number and four at least.
+#[derive(Clone, Copy)]
+pub(crate) struct Digits<'a> {
+    line: &'a [u8],
+    ghost good: { digit_fault line.now ≡ None },
+}
+
+impl<'a> Digits<'a> {
+    ghost use Rattle.std.specs.Prelude.{Some, MatchOption, MatchResult};
+    ghost use Rattle.frames.specs.Digits.{bytes_of};
+    ghost use Rattle.frames.specs.Frames.{checked_from};
+
+    // The digits of a line, or why it has none.
+    pub(crate) fn of(line: &'a [u8]) -> Result<Digits<'a>, DigitFault>
+        ensures { MatchResult result
+            (λ d. d.line.now ≡ line.now)
+            (λ e. digit_fault line.now ≡ Some e) }
+    {
+        if let Some(at) = first_bad(line) {
+            let byte = line[at];
+            return Err(DigitFault::BadByte { at, byte });
+        }
+        if line.len() % 2 != 0 {
+            return Err(DigitFault::Odd);
+        }
+        if line.len() < 4 {
+            return Err(DigitFault::Few);
+        }
+        Ok(Digits { line })
+    }
+
+    // Whether the last byte that the digits write is the sum of the others modulo 251.
+    pub(crate) fn check_holds(&self) -> bool
+        ensures { result ≡ checked_from 0 (bytes_of self.now.line.now) }
+    {
+        let mut sum: u32 = 0;
+        let mut rest = self.line;
+        while let [high, low, more @ ..] = rest {
+            let byte = byte_of(*high, *low);
+            if more.len() < 2 {
+                return byte as u32 == sum;
+            }
+            sum = (sum + byte as u32) % 251;
+            rest = more;
+        }
+        false
+    }
+
+    // The bytes that the digits write, where there are at most `ROOM`. It goes over the digits by twos as above; but that ends before
+    // the last byte and this where room ends, so there is a loop for each.
+    pub(crate) fn bytes<const ROOM: usize>(&self) -> Option<ArrayVec<u8, ROOM>>
+        ensures { MatchOption result
+            (ROOM < length (bytes_of self.now.line.now))
+            (λ v. v.items ≡ bytes_of self.now.line.now) }
+    {
+        let mut bytes = ArrayVec::new();
+        let mut rest = self.line;
+        while let [high, low, more @ ..] = rest {
+            let byte = byte_of(*high, *low);
+            bytes.try_push(byte).ok()?;
+            rest = more;
+        }
+        Some(bytes)
+    }
+}
+
+// The position of the first byte that is no digit.
+fn first_bad(line: &[u8]) -> Option<usize>
+    ensures { result ≡ position (λ b. not (is_digit b)) line.now }
+{
+    line.iter().position(|b| !is_digit(*b))
+}
 
 fn is_digit(b: u8) -> bool
     ensures { result ≡ is_digit b }
@@ -10,13 +84,23 @@ fn is_digit(b: u8) -> bool
     matches!(b, b'0'..=b'9' | b'A'..=b'F')
 }
 
-// The value of a digit.
-pub(crate) fn digit_value(b: u8) -> u8
+// The value of a digit. By hand, as `digit` is: the library's `to_digit` takes small letters too,
+// and its `from_digit` gives them.
+fn digit_value(b: u8) -> u8
     requires { is_digit b ≡ true }
     ensures value { result ≡ value_of b }
     ensures bound { result < 16 }
 {
     if b <= b'9' { b - b'0' } else { b - b'A' + 10 }
+}
+
+// The byte that two digits write.
+fn byte_of(high: u8, low: u8) -> u8
+    requires high { is_digit high ≡ true }
+    requires low { is_digit low ≡ true }
+    ensures { result ≡ value_of high * 16 + value_of low }
+{
+    digit_value(high) * 16 + digit_value(low)
 }
 
 // The digit of a value.
@@ -31,42 +115,12 @@ fn digit(value: u8) -> u8
     }
 }
 
-// Refuses a line that is no row of digits, an even number and four at least.
-pub(crate) fn check_digits(line: &[u8]) -> Result<(), DigitFault>
-    ensures { MatchResult result (λ _. digit_fault line.now ≡ None) (λ e. digit_fault line.now ≡ Some e) }
+// Puts the digits of a byte behind `line`.
+pub(crate) fn push_hex<const ROOM: usize>(line: &mut ArrayVec<u8, ROOM>, byte: u8)
+    requires { length line.old.items + 2 ≤ ROOM }
+    ensures items { line.new.items ≡ line.old.items ++ hex_of (byte ∷ []) }
+    ensures len { length line.new.items ≡ length line.old.items + 2 }
 {
-    for (at, b) in line.iter().enumerate() {
-        if !is_digit(*b) {
-            return Err(DigitFault::BadByte { at, byte: *b });
-        }
-    }
-    if line.len() % 2 != 0 {
-        return Err(DigitFault::Odd);
-    }
-    if line.len() < 4 {
-        return Err(DigitFault::Few);
-    }
-    Ok(())
-}
-
-// Fills `bytes` with the first bytes that the digits write, as many as there is place for.
-pub(crate) fn unhex(digits: &[u8], bytes: &mut [u8])
-    requires digits { all_digits digits.now ≡ true }
-    requires place { 2 * length bytes.old ≤ length digits.now }
-    ensures { bytes_of digits.now ≡ bytes.new ++ bytes_of (drop (2 * length bytes.old) digits.now) }
-{
-    for i in 0..bytes.len() {
-        bytes[i] = digit_value(digits[2 * i]) * 16 + digit_value(digits[2 * i + 1]);
-    }
-}
-
-// Writes the digits of `bytes` at the front of `out`, and leaves what is behind them.
-pub(crate) fn hex(bytes: &[u8], out: &mut [u8])
-    requires { 2 * length bytes.now ≤ length out.old }
-    ensures { out.new ≡ hex_of bytes.now ++ drop (2 * length bytes.now) out.old }
-{
-    for (i, b) in bytes.iter().enumerate() {
-        out[2 * i] = digit(*b / 16);
-        out[2 * i + 1] = digit(*b % 16);
-    }
+    line.push(digit(byte / 16));
+    line.push(digit(byte % 16));
 }

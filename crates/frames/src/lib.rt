@@ -17,6 +17,7 @@ mod tests {
     use crate::answer_frames::*;
     use crate::reader::*;
     use crate::writer::*;
+    use literals::Numbered;
 
     // Whether a line is read as a frame whose line it is.
     fn rewritten(line: &[u8]) -> bool {
@@ -30,12 +31,9 @@ mod tests {
         }
     }
 
-    // The number of the fault of a line; 0 where it has none.
-    fn fault(line: &[u8]) -> u8 {
-        match read_frame(line) {
-            Ok(_) => 0,
-            Err(fault) => fault.number(),
-        }
+    // The number of the fault of a line, where it has one.
+    fn fault(line: &[u8]) -> Option<u8> {
+        read_frame(line).err().map(|fault| fault.number())
     }
 
     #[test]
@@ -64,51 +62,48 @@ mod tests {
 
     #[test]
     fn each_fault(rt: HostRuntime) {
-        assert_eq!(rt; fault(b"10G0\n"), 1);
-        assert_eq!(rt; fault(b"101\n"), 1);
-        assert_eq!(rt; fault(b"10\n"), 1);
-        assert_eq!(rt; fault(b"1011"), 1);
-        assert_eq!(rt; fault(b"1G11\n"), 1);
-        assert_eq!(rt; fault(b"1011\n"), 2);
-        assert_eq!(rt; fault(b"3132\n"), 2);
-        assert_eq!(rt; fault(b"3131\n"), 3);
-        assert_eq!(rt; fault(b"200020\n"), 3);
-        assert_eq!(rt; fault(b"018081\n"), 3);
+        assert_eq!(rt; fault(b"10G0\n"), Some(1));
+        assert_eq!(rt; fault(b"101\n"), Some(1));
+        assert_eq!(rt; fault(b"10\n"), Some(1));
+        assert_eq!(rt; fault(b"1011"), Some(1));
+        assert_eq!(rt; fault(b"1G11\n"), Some(1));
+        assert_eq!(rt; fault(b"1011\n"), Some(2));
+        assert_eq!(rt; fault(b"3132\n"), Some(2));
+        assert_eq!(rt; fault(b"3131\n"), Some(3));
+        assert_eq!(rt; fault(b"200020\n"), Some(3));
+        assert_eq!(rt; fault(b"018081\n"), Some(3));
         assert_eq!(rt;
             fault(b"0180000000000000000000000000000000000000000000000000000000000000000081\n"),
-            4
+            Some(4)
         );
         assert_eq!(rt;
             fault(
                 b"03000200000000000000010000000000000000000000000000000000000000000000000000000000000000000000000000000006\n",
             ),
-            4
+            Some(4)
         );
         assert_eq!(rt;
             fault(b"120900000000000000000000000000000000000000000000000000000000000000001B\n"),
-            4
+            Some(4)
         );
-        assert_eq!(rt; fault(b"300000000000000001000000000000000132\n"), 4);
+        assert_eq!(rt; fault(b"300000000000000001000000000000000132\n"), Some(4));
     }
 
     // The length of what was written, or the number of the refusal.
-    fn outcome(wrote: Result<usize, WriteFault>) -> usize {
-        match wrote {
-            Ok(count) => count,
-            Err(fault) => usize::from(fault.number()),
-        }
+    fn outcome(wrote: Result<usize, WriteFault>) -> Result<usize, u8> {
+        wrote.map_err(|fault| fault.number())
     }
 
     #[test]
     fn answers(rt: HostRuntime) {
         let mut out = [0; 15];
-        assert_eq!(rt; outcome(write_row(&[0, 1], &mut out)), 15);
+        assert_eq!(rt; outcome(write_row(&[0, 1], &mut out)), Ok(15));
         assert!(rt; out.starts_with(b"31020000000134\n"));
-        assert_eq!(rt; outcome(write_refusal(40, 0, &mut out)), 15);
+        assert_eq!(rt; outcome(write_refusal(&(40, 0), &mut out)), Ok(15));
         assert!(rt; out.starts_with(b"3F280000000067\n"));
-        assert_eq!(rt; outcome(write_more(&mut out)), 5);
+        assert_eq!(rt; outcome(write_more(&mut out)), Ok(5));
         assert!(rt; out.starts_with(b"3232\n0000"));
-        assert_eq!(rt; outcome(write_row(&[65536, 0, 0], &mut out)), 22);
-        assert_eq!(rt; outcome(write_row(&[0, 0, 0], &mut out)), 21);
+        assert_eq!(rt; outcome(write_row(&[65536, 0, 0], &mut out)), Err(22));
+        assert_eq!(rt; outcome(write_row(&[0, 0, 0], &mut out)), Err(21));
     }
 }

@@ -1,88 +1,103 @@
 // Writing: the line of a frame, at the front of a buffer.
-ghost use Rattle.std.specs.Prelude.{◌≡◌, ◌+◌, ◌*◌, ◌%◌, ◌≤◌, [], ◌∷◌, ◌++◌, length, drop};
+ghost use Rattle.std.specs.Prelude.{◌≡◌, ◌+◌, ◌*◌, ◌%◌, ◌≤◌, [], ◌∷◌, ◌++◌, length, sum};
 ghost use Rattle.frames.specs.declared.frame.Frame.TheVariants.{Rule};
 ghost use Rattle.std.specs.List.{flat_map};
-ghost use Rattle.frames.specs.Frames.{word_bytes, total, sealed, line_with, line_for, wrote_in, written_in};
+ghost use Rattle.frames.specs.Frames.{word_bytes, sealed, line_with, line_for, wrote_in, written_in};
 
 use crate::frame::Frame;
-use crate::hex::hex;
+use crate::hex::push_hex;
+use arrayvec::ArrayVec;
 use literals::Condition;
 use tables::RuleRow;
 
 // The longest kind and fields of a frame that is read, in bytes.
-const LONGEST_BODY: usize = 51;
+const LONGEST: usize = 51;
 
-// The sum of bytes modulo 251.
+// The longest line, that of a row of 255 columns.
+const LONGEST_LINE: usize = 1027;
+
+// The sum of bytes modulo 251. That bytes are at most 512 is a premise here and below, and no type of theirs, since they come as
+// arrays of their own and out of buffers.
 fn check_byte(body: &[u8]) -> u8
-    ensures { result ≡ total body.now % 251 }
+    requires { length body.now ≤ 512 }
+    ensures { result ≡ sum body.now % 251 }
 {
-    let mut sum: u16 = 0;
-    for b in body {
-        sum = (sum + u16::from(*b)) % 251;
-    }
-    sum as u8
+    let sum: u32 = body.iter().map(|b| u32::from(*b)).sum();
+    (sum % 251) as u8
 }
 
-// Writes the line of a kind and fields at the front of `out`, and leaves what is behind it; nothing where there is no room.
+// The line of a kind and fields: their digits and those of the check byte, and a line feed.
+fn line(body: &[u8]) -> ArrayVec<u8, LONGEST_LINE>
+    requires { length body.now ≤ 512 }
+    ensures { result.items ≡ line_with (sealed body.now) }
+{
+    let mut line = ArrayVec::new();
+    for byte in body {
+        push_hex(&mut line, *byte);
+    }
+    push_hex(&mut line, check_byte(body));
+    line.push(b'\n');
+    line
+}
+
+// Writes the line of a kind and fields at the front of `out`, and leaves what is behind it.
+// Where there is no room it writes nothing.
 pub(crate) fn write_line(body: &[u8], out: &mut [u8]) -> Option<usize>
     requires { length body.now ≤ 512 }
     ensures result { result ≡ wrote_in (line_with (sealed body.now)) out.old }
     ensures buffer { out.new ≡ written_in (line_with (sealed body.now)) out.old }
 {
-    let count = 2 * body.len();
-    if out.len() < count + 3 {
+    let line = line(body);
+    let count = line.len();
+    if out.len() < count {
         return None;
     }
-    hex(body, out);
-    hex(&[check_byte(body)], &mut out[count..]);
-    out[count + 2] = b'\n';
-    Some(count + 3)
+    out[..count].copy_from_slice(line.as_slice());
+    Some(count)
 }
 
-// Writes bytes and then words, highest byte first, at the front of `body`.
-fn fill_body(head: &[u8], words: &[u64], body: &mut [u8])
-    requires { length head.now + 8 * length words.now ≤ length body.old }
-    ensures { body.new ≡ (head.now ++ flat_map (word_bytes 8) words.now) ++ drop (length head.now + 8 * length words.now) body.old }
+// The kind and fields of a frame: bytes, the kind first, and then numbers of `WIDTH` bytes each,
+// highest byte first. There is room for them, so no `unwrap` fails.
+pub(crate) fn fields<const WIDTH: usize, const ROOM: usize>(
+    head: &[u8],
+    numbers: &[u64],
+) -> ArrayVec<u8, ROOM>
+    requires width { WIDTH ≤ 8 }
+    requires room { length head.now + WIDTH * length numbers.now ≤ ROOM }
+    ensures { result.items ≡ head.now ++ flat_map (word_bytes WIDTH) numbers.now }
 {
-    let mut at = head.len();
-    body[0..at].copy_from_slice(head);
-    for word in words {
-        body[at..at + 8].copy_from_slice(&word.to_be_bytes());
-        at += 8;
+    let mut body = ArrayVec::new();
+    body.try_extend_from_slice(head).unwrap();
+    for number in numbers {
+        body.try_extend_from_slice(&number.to_be_bytes()[8 - WIDTH..])
+            .unwrap();
     }
-}
-
-// Writes the line of bytes and words; its fields are worked out in `buffer`.
-fn write_in(head: &[u8], words: &[u64], buffer: &mut [u8], out: &mut [u8]) -> Option<usize>
-    requires room { length head.now + 8 * length words.now ≤ length buffer.old }
-    requires small { length buffer.old ≤ 512 }
-    ensures result { result ≡ wrote_in (line_with (sealed (head.now ++ flat_map (word_bytes 8) words.now))) out.old }
-    ensures buffer { out.new ≡ written_in (line_with (sealed (head.now ++ flat_map (word_bytes 8) words.now))) out.old }
-{
-    let count = head.len() + 8 * words.len();
-    fill_body(head, words, buffer);
-    write_line(&buffer[0..count], out)
+    body
 }
 
 // Writes the line of bytes, the kind first, and words.
 fn write_fields(head: &[u8], words: &[u64], out: &mut [u8]) -> Option<usize>
     requires { length head.now + 8 * length words.now ≤ 51 }
-    ensures result { result ≡ wrote_in (line_with (sealed (head.now ++ flat_map (word_bytes 8) words.now))) out.old }
-    ensures buffer { out.new ≡ written_in (line_with (sealed (head.now ++ flat_map (word_bytes 8) words.now))) out.old }
+    ensures result { result ≡ wrote_in
+        (line_with (sealed (head.now ++ flat_map (word_bytes 8) words.now))) out.old }
+    ensures buffer { out.new ≡ written_in
+        (line_with (sealed (head.now ++ flat_map (word_bytes 8) words.now))) out.old }
 {
-    let mut buffer = [0; LONGEST_BODY];
-    write_in(head, words, &mut buffer, out)
+    let body = fields::<8, LONGEST>(head, words);
+    write_line(body.as_slice(), out)
 }
 
 // The words of a condition.
 fn condition_words(condition: Condition) -> [u64; 4]
-    ensures { result ≡ condition.wanted.plus ∷ condition.wanted.minus ∷ condition.absent.plus ∷ condition.absent.minus ∷ [] }
+    ensures { result ≡ condition.wanted.plus ∷ condition.wanted.minus
+        ∷ condition.absent.plus ∷ condition.absent.minus ∷ [] }
 {
     let Condition { wanted, absent } = condition;
     [wanted.plus, wanted.minus, absent.plus, absent.minus]
 }
 
-// Writes the line of a rule's frame.
+// Writes the line of a rule's frame. Here and below a kind is the format's own byte: an enum of kinds would be a second list of
+// the cases of a frame.
 fn write_rule(row: RuleRow, out: &mut [u8]) -> Option<usize>
     ensures result { result ≡ wrote_in (line_for (Rule row)) out.old }
     ensures buffer { out.new ≡ written_in (line_for (Rule row)) out.old }
@@ -106,7 +121,8 @@ fn write_rule(row: RuleRow, out: &mut [u8]) -> Option<usize>
     }
 }
 
-// Writes the line of a frame at the front of `out`, and leaves what is behind it; nothing where there is no room.
+// Writes the line of a frame at the front of `out`, and leaves what is behind it.
+// Where there is no room it writes nothing.
 pub fn write_frame(frame: Frame, out: &mut [u8]) -> Option<usize>
     ensures result { result ≡ wrote_in (line_for frame) out.old }
     ensures buffer { out.new ≡ written_in (line_for frame) out.old }
@@ -131,22 +147,12 @@ pub fn line_length(frame: Frame) -> usize
     ensures { result ≡ length (line_for frame) }
 {
     match frame {
-        Frame::Rule(RuleRow::Plain { code: _, body: _ }) => 71,
-        Frame::Rule(RuleRow::Constraint { body: _ }) => 69,
-        Frame::Rule(
-            RuleRow::Choice {
-                least: _,
-                greatest: _,
-                head: _,
-                body: _,
-            },
-        ) => 105,
+        Frame::Rule(RuleRow::Plain { .. }) => 71,
+        Frame::Rule(RuleRow::Constraint { .. }) => 69,
+        Frame::Rule(RuleRow::Choice { .. }) => 105,
         Frame::RankStep => 5,
         Frame::Wish(_) => 69,
-        Frame::Alternative {
-            level: _,
-            condition: _,
-        } => 71,
+        Frame::Alternative { .. } => 71,
         Frame::End(_) => 9,
         Frame::Fit(_) => 37,
     }

@@ -69,6 +69,12 @@ shared_is x y = record { left = l; right = r; all = o } where
   o (atom a) = has_and x.plus y.plus a
   o (negated a) = has_and x.minus y.minus a
 
+-- what two sets share is as large as their count of common literals
+pub common_size : (x y r : LiteralSet) → Shared x y r → size r ≡ common x y
+common_size x y r s =
+    let n = shared_is x y in
+    ap size (same_sets r (record { plus = bit_and x.plus y.plus; minus = bit_and x.minus y.minus }) (λ l h. n.all l (s.left l h) (s.right l h)) (λ l h. s.all l (n.left l h) (n.right l h)))
+
 pub differing_is : (x y : LiteralSet) → Differing x y (record { plus = bit_xor x.plus y.plus; minus = bit_xor x.minus y.minus })
 differing_is x y = record { one = o; left = l; right = r } where
   o : (k : Lit) → In (record { plus = bit_xor x.plus y.plus; minus = bit_xor x.minus y.minus }) k → (In x k × (In y k → ⊥)) ⊎ ((In x k → ⊥) × In y k)

@@ -3,6 +3,7 @@ use Rattle.std.proofs.Common.{◌≡◌, ℕ, ◌<◌, ◌≤◌, ◌⊎◌, Som
 use Rattle.std.proofs.lemmas.Bool.{cases_order}
 use Rattle.literals.specs.declared.literal.Literal.{Literal}
 use Rattle.literals.specs.declared.literal_set.LiteralSet.{LiteralSet}
+use Rattle.std.specs.Prelude.{MatchOption}
 use Rattle.literals.specs.Words.{Has, HighestBit}
 use Rattle.literals.specs.Sets.{Lit, atom, negated, named, In, Before, Differing}
 use Rattle.literals.specs.Settling.{Earlier, HighestIn, Highest, AgreeBefore, FirstDifferenceAt, FirstDifference, FirstDecides}
@@ -33,7 +34,7 @@ highest_negated s h none top = record { there = top.there; first = f } where
 
 -- the literal made of a code, as `Literal::new` makes it
 pub highest_made : (s : LiteralSet) (code : ℕ) (k : Lit) (o : Option Literal)
-    → elim o as (λ _. Type 0) [ None ↦ 128 ≤ code | Some l ↦ l.code ≡ code ] → code < 128 → named code ≡ k → HighestIn s k → Highest s o
+    → MatchOption o (128 ≤ code) (λ l. l.code ≡ code) → code < 128 → named code ≡ k → HighestIn s k → Highest s o
 highest_made s code k None over below e h = absurd (omega arith)
 highest_made s code k (Some l) is below e h = subst (HighestIn s) (sym (ap named is ∙ e)) h
 

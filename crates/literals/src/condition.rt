@@ -1,6 +1,6 @@
 // What a body or an alternative asks of a set of literals.
 ghost use Rattle.literals.specs.Conditions.{Holds};
-ghost use Rattle.std.specs.Prelude.{Decides};
+ghost use Rattle.std.specs.Prelude.{◌↔◌, IsTrue};
 
 use crate::literal_set::LiteralSet;
 
@@ -12,9 +12,15 @@ pub struct Condition {
 }
 
 impl Condition {
+    // Asks nothing, and so always holds.
+    pub const ALWAYS: Condition = Condition {
+        wanted: LiteralSet::EMPTY,
+        absent: LiteralSet::EMPTY,
+    };
+
     // Whether the set has every wanted literal and none of the absent ones.
     pub fn holds(self, set: LiteralSet) -> bool
-        ensures { Decides result (Holds self set) }
+        ensures { IsTrue result ↔ Holds self set }
     {
         self.wanted.is_subset(set) && self.absent.is_disjoint(set)
     }

@@ -4,6 +4,7 @@
 mod condition;
 mod literal;
 mod literal_set;
+mod numbered;
 mod record_fault;
 #[cfg(test)]
 mod tests;
@@ -12,5 +13,6 @@ mod words;
 pub use condition::Condition;
 pub use literal::Literal;
 pub use literal_set::LiteralSet;
+pub use numbered::Numbered;
 pub use record_fault::RecordFault;
 pub use words::highest_bit;

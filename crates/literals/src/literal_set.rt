@@ -1,5 +1,5 @@
 // Sets of literals as pairs of words.
-ghost use Rattle.std.specs.Prelude.{◌≡◌, ◌<◌, ◌≤◌, Decides};
+ghost use Rattle.std.specs.Prelude.{◌≡◌, ◌<◌, ◌≤◌, ◌↔◌, IsTrue};
 ghost use Rattle.literals.specs.Sets.{In, ◌⊑◌, Disjoint, Consistent, common, size, Before, Single, named, Union, Shared, Difference, Differing, Added, Removed};
 ghost use Rattle.literals.specs.Settling.{Highest, FirstDifference, SameLiterals, FirstDecides};
 ghost use Rattle.literals.specs.Words.{Extensional, HighestDecides};
@@ -8,7 +8,7 @@ use crate::literal::Literal;
 use crate::words::highest_bit;
 
 // A set of literals: bit `a` of `plus` says that atom `a` is in it, bit `a` of `minus` that its strong negation is.
-#[derive(Clone, Copy, PartialEq, Eq, Debug)]
+#[derive(Clone, Copy, PartialEq, Eq, PartialOrd, Ord, Debug)]
 pub struct LiteralSet {
     pub plus: u64,
     pub minus: u64,
@@ -22,81 +22,63 @@ impl LiteralSet {
         minus: u64::MAX,
     };
 
-    // The set of one literal.
-    pub fn of(literal: Literal) -> LiteralSet
-        ensures { Single (named literal.code) result }
-    {
-        let code = literal.code();
-        let bit = 1u64 << (code / 2);
-        if code % 2 == 0 {
-            LiteralSet {
-                plus: bit,
-                minus: 0,
-            }
-        } else {
-            LiteralSet {
-                plus: 0,
-                minus: bit,
-            }
-        }
-    }
-
     // Whether the literal is in the set.
     pub fn has(self, literal: Literal) -> bool
-        ensures { Decides result (In self (named literal.code)) }
+        ensures { IsTrue result ↔ In self (named literal.code) }
     {
-        LiteralSet::of(literal).is_subset(self)
+        LiteralSet::from(literal).is_subset(self)
     }
 
     // The set with one literal more, if it lacks it.
     pub fn with(self, literal: Literal) -> LiteralSet
         ensures { Added self (named literal.code) result }
     {
-        self.union(LiteralSet::of(literal))
+        self.union(LiteralSet::from(literal))
     }
 
     // The set without one literal, if it has it.
     pub fn without(self, literal: Literal) -> LiteralSet
         ensures { Removed self (named literal.code) result }
     {
-        self.difference(LiteralSet::of(literal))
+        self.difference(LiteralSet::from(literal))
     }
 
     // Whether every literal of this set is in `other`.
     pub fn is_subset(self, other: LiteralSet) -> bool
-        ensures { Decides result (self ⊑ other) }
+        ensures { IsTrue result ↔ (self ⊑ other) }
     {
         self.plus & other.plus == self.plus && self.minus & other.minus == self.minus
     }
 
     // Whether no literal is in both sets.
     pub fn is_disjoint(self, other: LiteralSet) -> bool
-        ensures { Decides result (Disjoint self other) }
+        ensures { IsTrue result ↔ Disjoint self other }
     {
         self.plus & other.plus == 0 && self.minus & other.minus == 0
     }
 
     // Whether the set has no atom together with its strong negation.
     pub fn is_consistent(self) -> bool
-        ensures { Decides result (Consistent self) }
+        ensures { IsTrue result ↔ Consistent self }
     {
         self.plus & self.minus == 0
     }
 
-    // Whether the sets are equal.
+    // Whether the sets are equal, as `==` tells.
     pub fn is_same(self, other: LiteralSet) -> bool
-        ensures { Decides result (self ≡ other) }
+        ensures { IsTrue result ↔ (self ≡ other) }
     {
-        self.plus == other.plus && self.minus == other.minus
+        self == other
     }
 
-    // Whether this set comes before `other`: by `plus` as a number, then by `minus`.
+    // Whether this set comes before `other`, as `<` tells: by `plus` as a number, then by `minus`.
     pub fn is_before(self, other: LiteralSet) -> bool
-        ensures { Decides result (Before self other) }
+        ensures { IsTrue result ↔ Before self other }
     {
-        self.plus < other.plus || self.plus == other.plus && self.minus < other.minus
+        self < other
     }
 
+    // The four operations that follow differ in an operator; a step on words that takes it would be longer than the four are.
     pub fn union(self, other: LiteralSet) -> LiteralSet
         ensures { Union self other result }
     {
@@ -146,16 +128,18 @@ impl LiteralSet {
 
     // How many literals the set has.
     pub fn len(self) -> u32
-        ensures { (result ≡ size self) × (result ≤ 128) }
+        ensures size { result ≡ size self }
+        ensures bound { result ≤ 128 }
     {
         self.plus.count_ones() + self.minus.count_ones()
     }
 
     // How many literals are in both sets.
+    #[tactic(auto, using(crate::proofs::SetLaws::common_size))]
     pub fn count_common(self, other: LiteralSet) -> u32
         ensures { result ≡ common self other }
     {
-        (self.plus & other.plus).count_ones() + (self.minus & other.minus).count_ones()
+        self.intersection(other).len()
     }
 
     // The first literal of the set in the order in which a search settles them: atoms from the highest down, then strong
@@ -165,20 +149,40 @@ impl LiteralSet {
     {
         match highest_bit(self.plus) {
             Some(atom) => Literal::new(2 * atom),
-            None => match highest_bit(self.minus) {
-                Some(atom) => Literal::new(2 * atom + 1),
-                None => None,
-            },
+            None => Literal::new(2 * highest_bit(self.minus)? + 1),
         }
     }
 
     // The first literal, in the same order, in which the sets differ. It decides which set comes before the other. The last
-    // two clauses are the laws that this stands on, for words of any width and for sets.
+    // four clauses are the laws that this stands on, for words of any width and for sets.
     pub fn first_difference(self, other: LiteralSet) -> Option<Literal>
         ensures found { FirstDifference self other result }
-        ensures words { Extensional × HighestDecides }
-        ensures sets { SameLiterals × FirstDecides }
+        ensures words { Extensional }
+        ensures highest { HighestDecides }
+        ensures sets { SameLiterals }
+        ensures first { FirstDecides }
     {
         self.symmetric_difference(other).highest()
+    }
+}
+
+// The set of one literal.
+impl From<Literal> for LiteralSet {
+    ghost from_gives = { λ literal set. Single (named literal.code) set };
+
+    fn from(literal: Literal) -> LiteralSet {
+        let code = literal.code();
+        let bit = 1u64 << (code / 2);
+        if code % 2 == 0 {
+            LiteralSet {
+                plus: bit,
+                minus: 0,
+            }
+        } else {
+            LiteralSet {
+                plus: 0,
+                minus: bit,
+            }
+        }
     }
 }

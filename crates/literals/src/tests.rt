@@ -4,12 +4,8 @@ use crate::literal_set::LiteralSet;
 use crate::record_fault::RecordFault;
 use std::test::Fail;
 
-// The code of a literal, and 255 for none.
-fn code_of(literal: Option<Literal>) -> u8 {
-    match literal {
-        Some(l) => l.code(),
-        None => 255,
-    }
+fn code_of(literal: Option<Literal>) -> Option<u8> {
+    literal.map(|l| l.code())
 }
 
 fn literal(code: u8) -> Result<Literal, RecordFault> {
@@ -20,7 +16,7 @@ fn literal(code: u8) -> Result<Literal, RecordFault> {
 fn codes_end_at_127(rt: HostRuntime) -> Result<(), Fail> {
     let last = literal(127)?;
     assert_eq!(rt; last.opposite().code(), 126);
-    assert_eq!(rt; code_of(Literal::new(128)), 255);
+    assert_eq!(rt; code_of(Literal::new(128)), None);
     Ok(())
 }
 
@@ -34,8 +30,8 @@ fn atoms_are_settled_first(rt: HostRuntime) {
         plus: 0,
         minus: 1 << 63,
     };
-    assert_eq!(rt; code_of(set.highest()), 6);
-    assert_eq!(rt; code_of(negations.highest()), 127);
-    assert_eq!(rt; code_of(set.first_difference(negations)), 6);
-    assert_eq!(rt; code_of(set.first_difference(set)), 255);
+    assert_eq!(rt; code_of(set.highest()), Some(6));
+    assert_eq!(rt; code_of(negations.highest()), Some(127));
+    assert_eq!(rt; code_of(set.first_difference(negations)), Some(6));
+    assert_eq!(rt; code_of(set.first_difference(set)), None);
 }

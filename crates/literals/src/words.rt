@@ -1,10 +1,11 @@
 // Words of 64 bits as sets of atoms: bit `a` says that atom `a` is in the set.
-ghost use Rattle.std.specs.Prelude.{◌≡◌, Some, None};
+ghost use Rattle.std.specs.Prelude.{◌≡◌, ◌<◌, IfSome, MatchOption};
 ghost use Rattle.literals.specs.Words.{HighestBit};
 
 // The highest member of a word.
 pub fn highest_bit(word: u64) -> Option<u8>
-    ensures { elim result [ None ↦ word ≡ 0 | Some h ↦ HighestBit word h ] }
+    ensures highest { MatchOption result (word ≡ 0) (λ h. HighestBit word h) }
+    ensures below { IfSome result (λ h. h < 64) }
 {
     if word == 0 {
         None

@@ -1,5 +1,5 @@
 // Bounds of sets: what is surely in, and what may be in.
-ghost use Rattle.std.specs.Prelude.{◌≡◌, true, Decides};
+ghost use Rattle.std.specs.Prelude.{◌≡◌, true, ◌↔◌, IsTrue};
 ghost use Rattle.picks.specs.Between.{Between, BoundsOf, FirstOpen, Including, Excluding, RaisesLower, CutsUpper};
 ghost use Rattle.literals.specs.Sets.{◌⊑◌, Difference, named};
 ghost use Rattle.literals.specs.declared.literal_set.LiteralSet.{LiteralSet as ASet};
@@ -14,20 +14,22 @@ pub struct Bounds {
     pub upper: LiteralSet,
 }
 
-impl Bounds {
-    // The bounds of the fits that keep the picks.
-    pub fn of(picks: Picks) -> Bounds
-        ensures { BoundsOf picks result }
-    {
+// The bounds of the fits that keep the picks.
+impl From<Picks> for Bounds {
+    ghost from_gives = { BoundsOf };
+
+    fn from(picks: Picks) -> Bounds {
         Bounds {
             lower: picks.required(),
             upper: LiteralSet::ALL.difference(picks.excluded()),
         }
     }
+}
 
+impl Bounds {
     // Whether the set lies between the bounds.
     pub fn contains(self, set: LiteralSet) -> bool
-        ensures { Decides result (Between self set) }
+        ensures { IsTrue result ↔ Between self set }
     {
         self.lower.is_subset(set) && set.is_subset(self.upper)
     }
@@ -35,8 +37,8 @@ impl Bounds {
     // Whether the bounds are crossed: something is in the lower one and not in the upper. Then, and only then, nothing lies
     // between them.
     pub fn are_crossed(self) -> bool
-        ensures crossed { Decides result (self.lower ⊑ self.upper → ⊥) }
-        ensures nothing { Decides result ((s : ASet) → Between self s → ⊥) }
+        ensures crossed { IsTrue result ↔ (self.lower ⊑ self.upper → ⊥) }
+        ensures nothing { IsTrue result ↔ ((s : ASet) → Between self s → ⊥) }
     {
         !self.lower.is_subset(self.upper)
     }
@@ -50,20 +52,21 @@ impl Bounds {
 
     // Whether no literal is open. Then at most one set lies between the bounds.
     pub fn is_settled(self) -> bool
-        ensures settled { Decides result (self.upper ⊑ self.lower) }
+        ensures settled { IsTrue result ↔ (self.upper ⊑ self.lower) }
         ensures one { result ≡ true → (s : ASet) → Between self s → s ≡ self.lower }
     {
         self.upper.is_subset(self.lower)
     }
 
     // The first open literal in the order in which a search settles them.
+    #[tactic(auto, using(crate::proofs::Spans::first_open))]
     pub fn first_open(self) -> Option<Literal>
         ensures { FirstOpen self result }
     {
         self.open().highest()
     }
 
-    // The bounds of the sets between these that have the literal.
+    // The bounds of the sets between these that have the literal; the mirror of the next, at the other bound.
     pub fn include(self, literal: Literal) -> Bounds
         ensures between { Including self (named literal.code) result }
         ensures bounds { RaisesLower self (named literal.code) result }

@@ -2,7 +2,7 @@
 use crate::bounds::Bounds;
 use crate::fit::Fit;
 use crate::picks::{Picks, Side};
-use literals::{Literal, LiteralSet, RecordFault};
+use literals::{Literal, LiteralSet, Numbered, RecordFault};
 use std::test::Fail;
 
 fn literal(code: u8) -> Result<Literal, RecordFault> {
@@ -11,7 +11,7 @@ fn literal(code: u8) -> Result<Literal, RecordFault> {
 
 #[test]
 fn an_inconsistent_fit_is_refused(rt: HostRuntime) -> Result<(), Fail> {
-    match Fit::new(LiteralSet { plus: 6, minus: 12 }) {
+    match Fit::try_from(LiteralSet { plus: 6, minus: 12 }) {
         Ok(_) => Err(Fail::new("atom 2 and its strong negation")),
         Err(fault) => {
             assert_eq!(rt; fault.number(), 4);
@@ -32,9 +32,9 @@ fn picks_stay_sound(rt: HostRuntime) -> Result<(), Fail> {
     let Some(both) = picks.exclude(atom.opposite()) else {
         return Err(Fail::new("an excluded literal bars nothing"));
     };
-    let fit = Fit::new(LiteralSet { plus: 3, minus: 0 })?;
+    let fit = Fit::try_from(LiteralSet { plus: 3, minus: 0 })?;
     assert!(rt; both.kept_by(fit));
-    assert!(rt; Bounds::of(both).contains(fit.literals()));
+    assert!(rt; Bounds::from(both).contains(fit.literals()));
     assert_eq!(rt; both.without(atom).required().len(), 0);
     Ok(())
 }

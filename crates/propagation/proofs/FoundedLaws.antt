@@ -1,9 +1,8 @@
 -- What the rules that are not surely barred can give from nothing includes every answer set between the bounds.
 use Rattle.std.proofs.Common.{List}
-use Rattle.std.specs.List.{AllByRecursion as All}
-use Rattle.std.proofs.ByRecursion.{All-weaker}
+use Rattle.std.specs.List.{All}
 use Rattle.literals.specs.declared.literal_set.LiteralSet.{LiteralSet}
-use Rattle.literals.specs.Sets.{Lit, ◌⊑◌}
+use Rattle.literals.specs.Sets.{Lit, ◌⊑◌, Shared}
 use Rattle.picks.specs.declared.bounds.Bounds.{Bounds}
 use Rattle.picks.specs.Between.{Between}
 use Rattle.tables.specs.declared.records.Head.{Head}
@@ -12,11 +11,11 @@ use Rattle.tables.specs.declared.records.Rule.{Rule}
 use Rattle.answer_sets.specs.AnswerSets.{ClosedUnder, AnswerSet}
 use Rattle.answer_sets.specs.Closing.{ClosedBy}
 use Rattle.answer_sets.specs.Rules.{Gives}
-use Rattle.propagation.specs.Narrowing.{Tighter, Lawful}
+use Rattle.propagation.specs.Narrowing.{Tighter}
 
-pub closed_includes : (rules : List Rule) (b : Bounds) (x : LiteralSet) → All (ClosedBy b.lower b.upper x) rules
+closed_includes : (rules : List Rule) (b : Bounds) (x : LiteralSet) → All (ClosedBy b.lower b.upper x) rules
     → (s : LiteralSet) → AnswerSet rules s → Between b s → s ⊑ x
-closed_includes rules b x closed s a w = a.founded.least x (All-weaker _ _ weaker rules closed) where
+closed_includes rules b x closed s a w = a.founded.least x (λ k d inside. weaker _ (closed k d inside)) where
   gives_more : (h : Head) (k : Lit) → Gives h s k → Gives h b.upper k
   gives_more (Plain literal) k g = g
   gives_more Constraint k g = g
@@ -26,10 +25,10 @@ closed_includes rules b x closed s a w = a.founded.least x (All-weaker _ _ weake
   weaker rule c active wanted k g = c (λ l h p. active l h (w.low l p)) wanted k (gives_more rule.head k g)
 
 -- so the upper bound may be brought down to it
-pub by_founded : (rules : List Rule) (b : Bounds) (u : LiteralSet) → u ⊑ b.upper → ((s : LiteralSet) → AnswerSet rules s → Between b s → s ⊑ u)
-    → Tighter (Lawful rules) b (record { lower = b.lower; upper = u })
-by_founded rules b u below keeps = record {
+pub by_founded : (rules : List Rule) (b : Bounds) (x u : LiteralSet) → All (ClosedBy b.lower b.upper x) rules → Shared b.upper x u
+    → Tighter (AnswerSet rules) b (record { lower = b.lower; upper = u })
+by_founded rules b x u closed both = record {
   low = λ l h. h;
-  high = below;
-  keeps = λ s p w. record { low = w.low; high = keeps s p.answer w };
+  high = both.left;
+  keeps = λ s a w. record { low = w.low; high = λ k h. both.all k (w.high k h) (closed_includes rules b x closed s a w k h) };
 }

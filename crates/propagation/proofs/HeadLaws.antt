@@ -2,15 +2,9 @@
 use Rattle.std.proofs.Common.{◌≤◌, ⊎_elim, arith}
 use Rattle.literals.specs.declared.literal_set.LiteralSet.{LiteralSet}
 use Rattle.literals.specs.Sets.{◌⊑◌, common, Union, Shared, Difference}
-use Rattle.literals.proofs.SetLaws.{present, common_sub, common_more}
+use Rattle.literals.proofs.SetLaws.{present, common_more}
 use Rattle.picks.specs.declared.bounds.Bounds.{Bounds}
 use Rattle.picks.specs.Between.{Between}
-
-pub few : (head : LiteralSet) (b : Bounds) (s : LiteralSet) → Between b s → common head s ≤ common head b.upper
-few head b s w = common_sub head s b.upper w.high
-
-pub many : (head : LiteralSet) (b : Bounds) (s : LiteralSet) → Between b s → common head b.lower ≤ common head s
-many head b s w = common_sub head b.lower s w.low
 
 -- as many as may be are in: the others are out
 pub no_more : (head : LiteralSet) (b : Bounds) (rest u : LiteralSet) → Difference head b.lower rest → Difference b.upper rest u

@@ -1,9 +1,8 @@
 -- One narrowing after another.
-use Rattle.std.proofs.Common.{◌≡◌, ◌+◌, ◌-◌, ◌<◌, ◌≤◌, Bool, false, Some, None, Decides, Option, ⊎_elim, lt_of_not-le, arith}
-use Rattle.std.proofs.lemmas.Bool.{both_ways}
+use Rattle.std.proofs.Common.{◌≡◌, ◌+◌, ◌-◌, ◌<◌, ◌≤◌, Some, None, Option, sym, lt_of_not-le, arith}
 use Rattle.literals.specs.declared.literal_set.LiteralSet.{LiteralSet}
 use Rattle.literals.specs.Sets.{◌⊑◌, size}
-use Rattle.literals.proofs.SetLaws.{present, size_sub, size_same}
+use Rattle.literals.proofs.SetLaws.{size_sub, size_same}
 use Rattle.picks.specs.declared.bounds.Bounds.{Bounds}
 use Rattle.picks.specs.Between.{Between}
 use Rattle.propagation.specs.Narrowing.{Tighter, Narrowed}
@@ -11,9 +10,8 @@ use Rattle.propagation.specs.Narrowing.{Tighter, Narrowed}
 pub tighter_refl : (P : LiteralSet → Type 0) (b : Bounds) → Tighter P b b
 tighter_refl P b = record { low = λ l h. h; high = λ l h. h; keeps = λ s p w. w }
 
-pub narrowed_trans : (P : LiteralSet → Type 0) (b n : Bounds) → Tighter P b n → (o : Option Bounds) → Narrowed P n o → Narrowed P b o
-narrowed_trans P b n t None f = λ s p w. f s p (t.keeps s p w)
-narrowed_trans P b n t (Some m) f = record {
+pub tighter_trans : (P : LiteralSet → Type 0) (b n m : Bounds) → Tighter P b n → Tighter P n m → Tighter P b m
+tighter_trans P b n m t f = record {
   low = λ l h. f.low l (t.low l h);
   high = λ l h. t.high l (f.high l h);
   keeps = λ s p w. f.keeps s p (t.keeps s p w);
@@ -29,21 +27,11 @@ pub narrowed_from : (P Q : LiteralSet → Type 0) (b : Bounds) → ((s : Literal
 narrowed_from P Q b f None h = λ s q w. h s (f s w q) w
 narrowed_from P Q b f (Some n) h = record { low = h.low; high = h.high; keeps = λ s q w. h.keeps s (f s w q) w }
 
--- bounds that cross have nothing between them
-pub crossed : (P : LiteralSet → Type 0) (b n : Bounds) → Tighter P b n → (n.lower ⊑ n.upper → ⊥) → Narrowed P b None
-crossed P b n t c s p w = let v = t.keeps s p w in c (λ k h. v.high k (v.low k h))
-
--- what is not decided to be crossed is not crossed
-pub uncrossed : (x y : LiteralSet) (r : Bool) → Decides r (x ⊑ y → ⊥) → r ≡ false → x ⊑ y
-uncrossed x y r d e l h =
-    ⊎_elim (λ here. here) (λ out. absurd (both_ways r e (d.1 (λ s. out (s l h))))) (present y l)
-
 -- the bounds come together
 pub bounds_less : (n m : Bounds) → n.lower ⊑ m.lower → m.upper ⊑ n.upper → size m.lower ≤ 128
-    → ((m.lower ⊑ n.lower) × (n.upper ⊑ m.upper) → ⊥) → (128 - size m.lower) + size m.upper < (128 - size n.lower) + size n.upper
-bounds_less n m l u fits changed = lt_of_not-le (λ h. changed (lower_same h, upper_same h)) where
-  lower_same : (128 - size n.lower) + size n.upper ≤ (128 - size m.lower) + size m.upper → m.lower ⊑ n.lower
-  lower_same h = rw (size_same n.lower m.lower l (omega (arith, size_sub m.upper n.upper u))) (λ k p. p)
-
-  upper_same : (128 - size n.lower) + size n.upper ≤ (128 - size m.lower) + size m.upper → n.upper ⊑ m.upper
-  upper_same h = rw (size_same m.upper n.upper u (omega (arith, size_sub n.lower m.lower l))) (λ k p. p)
+    → (m ≡ n → ⊥) → (128 - size m.lower) + size m.upper < (128 - size n.lower) + size n.upper
+bounds_less n m l u fits changed =
+    lt_of_not-le (λ h.
+    let low = size_same n.lower m.lower l (omega (arith, size_sub m.upper n.upper u)) in
+    let high = size_same m.upper n.upper u (omega (arith, size_sub n.lower m.lower l)) in
+    changed (λ i. record { lower = sym low i; upper = high i }))

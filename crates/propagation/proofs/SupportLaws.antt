@@ -1,61 +1,61 @@
 -- What no rule gives is in no answer set, and the strong negation of what is in is out.
-use Rattle.std.proofs.Common.{List, [], ◌∷◌, IfSome, Some, None, Option}
-use Rattle.std.specs.List.{AllByRecursion as All}
+use Rattle.std.proofs.Common.{List, [], ◌∷◌, ◌++◌}
+use Rattle.std.specs.List.{All}
+use Rattle.std.proofs.lemmas.List.Elements.{All-weaker, All-push}
 use Rattle.literals.specs.declared.literal_set.LiteralSet.{LiteralSet}
-use Rattle.literals.specs.Sets.{Lit, atom, negated, In, ◌⊑◌, Shared, Difference}
+use Rattle.literals.specs.Sets.{Lit, atom, negated, In, ◌⊑◌, opposite_of, Shared}
 use Rattle.literals.proofs.SetLaws.{shared_is}
 use Rattle.picks.specs.declared.bounds.Bounds.{Bounds}
 use Rattle.picks.specs.Between.{Between}
 use Rattle.tables.specs.declared.records.Rule.{Rule}
-use Rattle.tables.specs.declared.row.RuleRow.{RuleRow}
-use Rattle.tables.specs.Making.{rule_of}
 use Rattle.answer_sets.specs.AnswerSets.{ClosedUnder, AnswerSet}
-use Rattle.answer_sets.specs.Closing.{OfRow}
+use Rattle.answer_sets.specs.Rules.{Satisfies}
 use Rattle.propagation.specs.declared.turn.Turn.{Turn}
 use Rattle.propagation.specs.Narrowing.{Tighter, Lawful}
-use Rattle.propagation.specs.Support.{Supports, Passed}
+use Rattle.propagation.specs.Support.{Supports, Turned, Supported}
+use Rattle.propagation.proofs.Steps.{tighter_trans, widened}
 
--- more support
-supports_more : (x y s : LiteralSet) → x ⊑ y → (rule : Rule) → Supports x s rule → Supports y s rule
-supports_more x y s m rule h holds k g = m k (h holds k g)
+-- one rule more
+module _ (t u : Turn) (rule : Rule) (turned : Turned rule t u) where
+  pub turned_bounds : (rules : List Rule) (b : Bounds) → ((s : LiteralSet) → Lawful rules s → Satisfies s rule)
+      → Tighter (Lawful rules) b t.bounds → Tighter (Lawful rules) b u.bounds
+  turned_bounds rules b here tighter = tighter_trans (Lawful rules) b t.bounds u.bounds tighter (record {
+    low = turned.bounds.low;
+    high = turned.bounds.high;
+    keeps = λ s lawful. turned.bounds.keeps s (here s lawful);
+  })
 
-of_some : (P Q : Rule → Type 0) → ((r : Rule) → P r → Q r) → (o : Option Rule) → IfSome o P → IfSome o Q
-of_some P Q f None h = tt
-of_some P Q f (Some r) h = f r h
-
-pub row_more_support : (x y s : LiteralSet) → x ⊑ y → (row : RuleRow) → OfRow (Supports x s) row → OfRow (Supports y s) row
-row_more_support x y s m row h = of_some (Supports x s) (Supports y s) (supports_more x y s m) (rule_of row) h
+  pub turned_supports : (s : LiteralSet) (rules : List Rule) → Between u.bounds s
+      → (Between t.bounds s → All (Supports t.support s) rules) → All (Supports u.support s) (rules ++ rule ∷ [])
+  turned_supports s rules w before =
+      let v = widened t.bounds u.bounds turned.bounds.low turned.bounds.high s w in
+      All-push (Supports u.support s) rules rule
+      (All-weaker (Supports t.support s) (Supports u.support s) (λ r h holds k g. turned.more k (h holds k g)) rules (before v)) (turned.supports s v)
 
 -- an answer set is inside whatever supports it: what it shares with the support is closed
-module _ (support s both : LiteralSet) (j : Shared s support both) where
-  shared_closed : (rules : List Rule) → All (ClosedUnder s s) rules → All (Supports support s) rules → All (ClosedUnder s both) rules
-  shared_closed [] c h = tt
-  shared_closed (r ∷ rules) c h = (
-    λ active wanted l g.
-        let there : r.body.wanted ⊑ s = λ m q. j.left m (wanted m q) in
-        j.all l (c.0 active there l g) (h.0 (there, active) l g),
-    shared_closed rules c.1 h.1,
-  )
+closed_shared : (support s both : LiteralSet) → Shared s support both → (rule : Rule)
+    → ClosedUnder s s rule → Supports support s rule → ClosedUnder s both rule
+closed_shared support s both j rule closed supports active wanted l g =
+    let there : rule.body.wanted ⊑ s = λ m q. j.left m (wanted m q) in
+    j.all l (closed active there l g) (supports (there, active) l g)
 
-pub support_includes : (rules : List Rule) (support s : LiteralSet) → AnswerSet rules s → All (Supports support s) rules → s ⊑ support
+support_includes : (rules : List Rule) (support s : LiteralSet) → AnswerSet rules s → All (Supports support s) rules → s ⊑ support
 support_includes rules support s a all k p =
     let j = shared_is s support in
-    j.right k (a.founded.least _ (shared_closed support s _ j rules a.founded.closed all) k p)
+    j.right k (a.founded.least _ (λ n d inside. closed_shared support s _ j _ (a.founded.closed n d inside) (all n d inside)) k p)
 
--- within the support, and without an atom beside its strong negation
-pub by_support : (rules : List Rule) (b : Bounds) (t : Turn) (m u : LiteralSet) → Passed rules b t → Shared t.bounds.upper t.support m
-    → Difference m (record { plus = t.bounds.lower.minus; minus = t.bounds.lower.plus }) u
-    → Tighter (Lawful rules) b (record { lower = t.bounds.lower; upper = u })
-by_support rules b t m u p j d = record {
-  low = p.bounds.low;
-  high = λ k h. p.bounds.high k (j.left k (d.left k h));
-  keeps = λ s l w. let v = p.bounds.keeps s l.answer.satisfied w in record {
-    low = v.low;
-    high = λ k h. d.all k (j.all k (v.high k h)
-        (support_includes rules t.support s l.answer (p.supports s l.answer.satisfied v) k h)) (apart s l v k h);
+-- so after the last rule
+pub by_support : (rules : List Rule) (b : Bounds) (t : Turn) (n : Bounds) → Tighter (Lawful rules) b t.bounds
+    → ((s : LiteralSet) → Between t.bounds s → All (Supports t.support s) rules) → Supported t n → Tighter (Lawful rules) b n
+by_support rules b t n p supports e = tighter_trans (Lawful rules) b t.bounds n p (record {
+  low = λ k h. rw e.low h;
+  high = e.high;
+  keeps = λ s l w. record {
+    low = λ k h. w.low k (rw e.low at h);
+    high = λ k h. e.all k (w.high k h) (support_includes rules t.support s l.answer (supports s w) k h)
+        (λ q. apart k s l h (w.low (opposite_of k) q));
   };
-} where
-  apart : (s : LiteralSet) → Lawful rules s → Between t.bounds s → (k : Lit) → In s k
-      → In (record { plus = t.bounds.lower.minus; minus = t.bounds.lower.plus }) k → ⊥
-  apart s l w (atom a) h q = l.consistent a h (w.low (negated a) q)
-  apart s l w (negated a) h q = l.consistent a (w.low (atom a) q) h
+}) where
+  apart : (k : Lit) (s : LiteralSet) → Lawful rules s → In s k → In s (opposite_of k) → ⊥
+  apart (atom a) s l h q = l.consistent a h q
+  apart (negated a) s l h q = l.consistent a q h

@@ -1,5 +1,5 @@
 // Heads that have to hold: the literal of a plain head, and the numbers of a choice head both ways.
-ghost use Rattle.std.specs.Prelude.{◌≡◌, ◌≤◌, true};
+ghost use Rattle.std.specs.Prelude.{◌≤◌};
 ghost use Rattle.answer_sets.specs.Rules.{HeadHolds};
 ghost use Rattle.literals.specs.Sets.{◌⊑◌, common};
 ghost use Rattle.literals.specs.declared.literal_set.LiteralSet.{LiteralSet as ASet};
@@ -7,33 +7,38 @@ ghost use Rattle.picks.specs.Between.{Between};
 ghost use Rattle.propagation.specs.Narrowing.{Tighter, Narrowed};
 ghost use Rattle.tables.specs.declared.records.Head.TheVariants.{Choice as AChoice};
 
+use crate::statement::Statement;
 use literals::LiteralSet;
 use picks::Bounds;
 use tables::{Choice, Head};
 
-// Whether the head holds in no set between the bounds.
-pub(crate) fn head_fails(head: Head, bounds: Bounds) -> bool
-    ensures { result ≡ true → (s : ASet) → HeadHolds head s → Between bounds s → ⊥ }
-{
-    match head {
-        Head::Plain(literal) => !bounds.upper.has(literal),
-        Head::Constraint => true,
-        Head::Choice(choice) => choice_fails(choice, bounds),
+impl Statement for Head {
+    ghost holds = { HeadHolds };
+
+    fn fails(self, bounds: Bounds) -> bool {
+        match self {
+            Head::Plain(literal) => !bounds.upper.has(literal),
+            Head::Constraint => true,
+            Head::Choice(choice) => choice.fails(bounds),
+        }
     }
 }
 
-// Whether every set between the bounds has too few or too many of the literals.
-fn choice_fails(choice: Choice, bounds: Bounds) -> bool
-    ensures { result ≡ true → (s : ASet) → choice.least ≤ common choice.head s → common choice.head s ≤ choice.greatest → Between bounds s → ⊥ }
-{
-    choice.head.count_common(bounds.upper) < u32::from(choice.least)
-        || choice.head.count_common(bounds.lower) > u32::from(choice.greatest)
+// It fails where every set between the bounds has too few or too many of its literals.
+impl Statement for Choice {
+    ghost holds = { λ choice. HeadHolds (AChoice choice) };
+
+    fn fails(self, bounds: Bounds) -> bool {
+        self.head.count_common(bounds.upper) < u32::from(self.least)
+            || self.head.count_common(bounds.lower) > u32::from(self.greatest)
+    }
 }
 
 // As many as may be are in: then the others are out.
 fn upper_by_choice(choice: Choice, bounds: Bounds) -> LiteralSet
     ensures tighter { result ⊑ bounds.upper }
-    ensures keeps { (s : ASet) → common choice.head s ≤ choice.greatest → Between bounds s → s ⊑ result }
+    ensures keeps { (s : ASet) → common choice.head s ≤ choice.greatest
+        → Between bounds s → s ⊑ result }
 {
     if choice.head.count_common(bounds.lower) == u32::from(choice.greatest) {
         bounds
@@ -44,10 +49,12 @@ fn upper_by_choice(choice: Choice, bounds: Bounds) -> LiteralSet
     }
 }
 
-// No more than must be can be in: then they all are.
+// No more than must be can be in: then they all are. The mirror of the function above: but for the
+// count, no operation is the same in both.
 fn lower_by_choice(choice: Choice, bounds: Bounds) -> LiteralSet
     ensures tighter { bounds.lower ⊑ result }
-    ensures keeps { (s : ASet) → choice.least ≤ common choice.head s → Between bounds s → result ⊑ s }
+    ensures keeps { (s : ASet) → choice.least ≤ common choice.head s
+        → Between bounds s → result ⊑ s }
 {
     if choice.head.count_common(bounds.upper) == u32::from(choice.least) {
         bounds.lower.union(choice.head.intersection(bounds.upper))
@@ -70,7 +77,7 @@ fn narrow_by_choice(choice: Choice, bounds: Bounds) -> Bounds
 pub(crate) fn narrow_by_head(head: Head, bounds: Bounds) -> Option<Bounds>
     ensures { Narrowed (HeadHolds head) bounds result }
 {
-    if head_fails(head, bounds) {
+    if head.fails(bounds) {
         return None;
     }
     match head {

@@ -1,7 +1,6 @@
 -- Why a search along a given fit finds the first one after it: the first literal in which a set differs from the fit decides
 -- whether it comes before or after.
-use Rattle.std.proofs.Common.{◌≡◌, ◌+◌, ◌-◌, ◌<◌, ◌≤◌, Bool, true, false, List, Some, None, Decides, Option, sym, ap, subst, ⊎_elim, le_of_lt, arith}
-use Rattle.std.proofs.lemmas.Bool.{both_ways}
+use Rattle.std.proofs.Common.{◌≡◌, ◌+◌, ◌-◌, ◌<◌, ◌≤◌, Bool, List, Some, None, Option, ap, ⊎_elim, le_of_lt, arith}
 use Rattle.literals.specs.declared.literal_set.LiteralSet.{LiteralSet}
 use Rattle.literals.specs.Sets.{Lit, In, size}
 use Rattle.literals.specs.Settling.{Highest, HighestIn, AgreeBefore}
@@ -16,14 +15,6 @@ use Rattle.fits.specs.First.{First}
 use Rattle.fits.proofs.Firsts.{first_like}
 use Rattle.tables.specs.declared.records.Rule.{Rule}
 use Rattle.rulebook.specs.Finding.{SuitsBetween, SuitsAfter, Doubtful}
-
--- what a test on the literals of the given fit says of the fit
-module _ (s a : LiteralSet) (k : Lit) (r : Bool) (same : s ≡ a) (decides : Decides r (In s k)) where
-  pub has_given : r ≡ true → In a k
-  has_given yes' = subst (λ x. In x k) same (decides.0 yes')
-
-  pub lacks_given : r ≡ false → In a k → ⊥
-  lacks_given no' h = both_ways r no' (decides.1 (subst (λ x. In x k) (sym same) h))
 
 module _ (a : LiteralSet) (b : Bounds) (r : LiteralSet) (d : Doubtful a b r) where
   -- no literal is in doubt: one set is left, the given one

@@ -1,5 +1,5 @@
 -- What a search of a rule book looks for. Words of private functions.
-use Rattle.std.specs.Prelude.{◌≡◌, ◌<◌, Bool, T, ◌⊎◌, List}
+use Rattle.std.specs.Prelude.{◌≡◌, ◌<◌, Bool, IsTrue, ◌⊎◌, List}
 use Rattle.literals.specs.declared.literal_set.LiteralSet.{LiteralSet}
 use Rattle.literals.specs.Sets.{Lit, In}
 use Rattle.picks.specs.declared.bounds.Bounds.{Bounds}
@@ -11,7 +11,7 @@ use Rattle.answer_sets.specs.AnswerSets.{AnswerSet}
 
 -- an answer set that passes
 abbrev pub Suits : List Rule → (Fit → Bool) → Fit → Type 0
-Suits rules passing f = AnswerSet rules f.literals × T (passing f)
+Suits rules passing f = AnswerSet rules f.literals × IsTrue (passing f)
 
 -- such a fit with just these literals
 abbrev pub SuitsAt : List Rule → (Fit → Bool) → LiteralSet → Fit → Type 0

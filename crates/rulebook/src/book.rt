@@ -3,7 +3,7 @@ ghost use Rattle.std.specs.Prelude.{◌≡◌, true};
 ghost use Rattle.answer_sets.specs.AnswerSets.{AnswerSet};
 ghost use Rattle.answer_sets.specs.Rules.{rules_of};
 
-use crate::search::first_after;
+use crate::search::Search;
 use fits::{Filter, Source};
 use picks::{Fit, Picks};
 use tables::RuleRow;
@@ -38,10 +38,14 @@ impl<'a> Source for RuleBook<'a> {
     ghost lawful = { λ b f. AnswerSet (rules_of b.rows.now) f.literals };
 
     fn next(&self, picks: Picks, after: Option<Fit>) -> Option<Fit> {
-        first_after(self.rows, &Everything, picks, after)
+        self.next_passing(picks, after, &Everything)
     }
 
     fn next_passing<F: Filter>(&self, picks: Picks, after: Option<Fit>, filter: &F) -> Option<Fit> {
-        first_after(self.rows, filter, picks, after)
+        let search = Search {
+            rows: self.rows,
+            filter,
+        };
+        search.first_after(picks, after)
     }
 }

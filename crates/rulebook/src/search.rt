@@ -12,38 +12,75 @@ use picks::{Bounds, Fit, Picks};
 use propagation::narrow;
 use tables::RuleRow;
 
-// The fit of the set, if it is an answer set that passes.
-fn suiting<F: Filter>(rows: &[RuleRow], filter: &F, set: LiteralSet) -> Option<Fit>
-    ensures { First (SuitsAt (rules_of rows.now) (F.passing filter.now) set) result }
-{
-    let Ok(fit) = Fit::new(set) else {
-        return None;
-    };
-    if !filter.passes(fit) {
-        return None;
-    }
-    if is_answer_set(rows, set) {
-        Some(fit)
-    } else {
-        None
-    }
+// A search of a table of rules for the answer sets that pass a filter.
+#[derive(Drop)]
+pub(crate) struct Search<'a, F> {
+    pub(crate) rows: &'a [RuleRow],
+    pub(crate) filter: &'a F,
 }
 
-// The first answer set between the bounds that passes.
-fn settle<F: Filter>(rows: &[RuleRow], filter: &F, bounds: Bounds) -> Option<Fit>
-    ensures { First (SuitsBetween (rules_of rows.now) (F.passing filter.now) bounds) result }
-{
-    let n = narrow(rows, bounds)?;
-    if filter.is_hopeless(n) {
-        return None;
+impl<'a, F: Filter> Search<'a, F> {
+    // The first answer set that keeps the picks, passes, and comes after the given fit, if one is given.
+    pub(crate) fn first_after(&self, picks: Picks, after: Option<Fit>) -> Option<Fit>
+        ensures { First
+            (NextPassing (λ f. AnswerSet (rules_of self.now.rows.now) f.literals)
+            (F.passing self.now.filter.now) picks after)
+            result }
+    {
+        let bounds = Bounds::from(picks);
+        match after {
+            None => self.settle(bounds),
+            Some(given) => self.settle_after(given, narrow(self.rows, bounds)?),
+        }
     }
-    let Some(literal) = n.first_open() else {
-        return suiting(rows, filter, n.lower);
-    };
-    if let Some(fit) = settle(rows, filter, n.exclude(literal)) {
-        return Some(fit);
+
+    // The first answer set between the bounds that passes and comes after the given fit. It goes down along the given fit
+    // without propagation, and on the way back it searches, from the lowest literal up, what agrees with the fit above a literal
+    // and has that literal while the fit has not.
+    fn settle_after(&self, given: Fit, bounds: Bounds) -> Option<Fit>
+        ensures { First
+            (SuitsAfter (rules_of self.now.rows.now) (F.passing self.now.filter.now) given bounds)
+            result }
+    {
+        let literal = doubtful(given, bounds).highest()?;
+        if given.literals().has(literal) {
+            return self.settle_after(given, bounds.include(literal));
+        }
+        // An `if let`, here and below: within the recursion the closure of an `or_else` would need a contract of its own.
+        if let Some(fit) = self.settle_after(given, bounds.exclude(literal)) {
+            return Some(fit);
+        }
+        self.settle(bounds.include(literal))
     }
-    settle(rows, filter, n.include(literal))
+
+    // The first answer set between the bounds that passes.
+    fn settle(&self, bounds: Bounds) -> Option<Fit>
+        ensures { First
+            (SuitsBetween (rules_of self.now.rows.now) (F.passing self.now.filter.now) bounds)
+            result }
+    {
+        let n = narrow(self.rows, bounds)?;
+        if self.filter.is_hopeless(n) {
+            return None;
+        }
+        let Some(literal) = n.first_open() else {
+            return self.suiting(n.lower);
+        };
+        if let Some(fit) = self.settle(n.exclude(literal)) {
+            return Some(fit);
+        }
+        self.settle(n.include(literal))
+    }
+
+    // The fit of the set, if it is an answer set that passes.
+    fn suiting(&self, set: LiteralSet) -> Option<Fit>
+        ensures { First
+            (SuitsAt (rules_of self.now.rows.now) (F.passing self.now.filter.now) set)
+            result }
+    {
+        Fit::try_from(set).ok().filter(|fit| self.filter.passes(*fit)
+            && is_answer_set(self.rows, set))
+    }
 }
 
 // The literals in which a set between the bounds may differ from the given fit.
@@ -55,37 +92,4 @@ fn doubtful(given: Fit, bounds: Bounds) -> LiteralSet
         .upper
         .difference(set)
         .union(set.difference(bounds.lower))
-}
-
-// The first answer set between the bounds that passes and comes after the given fit. It goes down along the given fit without
-// propagation, and on the way back it searches, from the lowest literal up, what agrees with the fit above a literal and has
-// that literal while the fit has not.
-fn settle_after<F: Filter>(rows: &[RuleRow], filter: &F, given: Fit, bounds: Bounds) -> Option<Fit>
-    ensures { First (SuitsAfter (rules_of rows.now) (F.passing filter.now) given bounds) result }
-{
-    let literal = doubtful(given, bounds).highest()?;
-    if given.literals().has(literal) {
-        return settle_after(rows, filter, given, bounds.include(literal));
-    }
-    if let Some(fit) = settle_after(rows, filter, given, bounds.exclude(literal)) {
-        return Some(fit);
-    }
-    settle(rows, filter, bounds.include(literal))
-}
-
-// The first answer set that keeps the picks, passes, and comes after the given fit, if one is given.
-pub(crate) fn first_after<F: Filter>(
-    rows: &[RuleRow],
-    filter: &F,
-    picks: Picks,
-    after: Option<Fit>,
-) -> Option<Fit>
-    ensures { First (NextPassing (λ f. AnswerSet (rules_of rows.now) f.literals) (F.passing filter.now) picks after) result }
-{
-    let bounds = Bounds::of(picks);
-    let Some(given) = after else {
-        return settle(rows, filter, bounds);
-    };
-    let n = narrow(rows, bounds)?;
-    settle_after(rows, filter, given, n)
 }

@@ -1,10 +1,12 @@
 -- The answer sets of a list of rules that is written out, found by computation: every set of head literals is tried.
-use Rattle.std.proofs.Common.{◌≡◌, ℕ, zero, suc, ◌+◌, ◌*◌, ◌/◌, ◌%◌, ◌^◌, ◌<◌, Bool, true, false, cond, not, ◌&&◌, ◌||◌, eqb, ltb, leb, List, [], ◌∷◌, Decides, sym, refl, subst, ⊎_elim, pow-suc, arith}
+use Rattle.std.proofs.Common.{◌≡◌, All, Contains, ℕ, zero, suc, ◌+◌, ◌*◌, ◌/◌, ◌%◌, ◌^◌, ◌<◌, Bool, true, false, cond, not, ◌&&◌, ◌||◌, eqb, ltb, leb, List, [], ◌∷◌, Decides, sym, refl, subst, ⊎_elim, pow-suc, arith}
 use lib.Bits.{bit_and, bit_or}
-use Rattle.std.specs.List.{ContainsAt as Has, AllByRecursion as All}
+use Rattle.std.specs.List.{list_all, list_any}
 use Rattle.std.proofs.lemmas.Bool.{and_parts, and_from, or_cases, or_left, or_right, cases_Bool, cond_both, cond-true, not-true, not_from_false, ltb-true, leb-true, le-leb, eq-eqb, both_ways, false≢true}
-use Rattle.std.proofs.lemmas.Bool.Decides.{Decides-like, Decides-and, Decides-eqb}
-use Rattle.std.proofs.ByRecursion.{Decides-by_and, has_append_left, has_append_right, has_push}
+use Rattle.std.proofs.lemmas.Bool.Decides.{Decides-like, Decides-and, Decides-by_and, Decides-eqb}
+use Rattle.std.proofs.lemmas.List.Elements.{All-nil, All-cons, All-head, All-tail, All-weaker, Contains-append_right}
+use Rattle.std.proofs.lemmas.List.Kept.{AllPairs-cons}
+use Rattle.std.proofs.lemmas.List.Sums.{AllPass-from_list_all}
 use Rattle.literals.specs.declared.condition.Condition.{Condition}
 use Rattle.literals.specs.declared.literal_set.LiteralSet.{LiteralSet}
 use Rattle.literals.specs.Words.{◌⊆◌}
@@ -110,14 +112,14 @@ passed_grown s (r ∷ rs) x k h = passed_grown s rs (taken s r x) k (taken_grown
 
 passed_least : (s : LiteralSet) (rs : List Rule) (x y : LiteralSet) → All (ClosedUnder s y) rs → x ⊑ y → passed s rs x ⊑ y
 passed_least s [] x y c i = i
-passed_least s (r ∷ rs) x y c i = passed_least s rs (taken s r x) y c.1 (taken_least s r x y c.0 i)
+passed_least s (r ∷ rs) x y c i =
+    passed_least s rs (taken s r x) y (All-tail (ClosedUnder s y) r rs c) (taken_least s r x y (All-head (ClosedUnder s y) r rs c) i)
 
 passed_closed : (s : LiteralSet) (rs : List Rule) (x z : LiteralSet) → z ⊑ x → passed s rs x ⊑ z → All (ClosedUnder s z) rs
-passed_closed s [] x z zx i = tt
-passed_closed s (r ∷ rs) x z zx i = (
-  taken_closed s r x z zx (λ k h. i k (passed_grown s rs (taken s r x) k h)),
-  passed_closed s rs (taken s r x) z (λ k h. taken_grown s r x k (zx k h)) i,
-)
+passed_closed s [] x z zx i = All-nil (ClosedUnder s z)
+passed_closed s (r ∷ rs) x z zx i =
+    All-cons (ClosedUnder s z) r rs (taken_closed s r x z zx (λ k h. i k (passed_grown s rs (taken s r x) k h)))
+    (passed_closed s rs (taken s r x) z (λ k h. taken_grown s r x k (zx k h)) i)
 
 abbrev again : ℕ → LiteralSet → List Rule → LiteralSet → LiteralSet
 again zero s rs x = x
@@ -169,12 +171,8 @@ satisfies_decides s r =
           (λ n. or_left (not (holds? r.body s)) (head? r.head s) (not_from_false (holds? r.body s) n)) (cases_Bool (holds? r.body s)),
     )
 
-abbrev all_satisfied? : LiteralSet → List Rule → Bool
-all_satisfied? s [] = true
-all_satisfied? s (r ∷ rs) = satisfies? s r && all_satisfied? s rs
-
 abbrev answer? : ℕ → LiteralSet → List Rule → Bool
-answer? n s rs = all_satisfied? s rs && (within? (again n s rs none) s && within? s (again n s rs none))
+answer? n s rs = list_all (satisfies? s) rs && (within? (again n s rs none) s && within? s (again n s rs none))
 
 answer_decides : (n : ℕ) (s : LiteralSet) (rs : List Rule) → enough? n s rs ≡ true → Decides (answer? n s rs) (AnswerSet rs s)
 answer_decides n s rs e =
@@ -183,7 +181,7 @@ answer_decides n s rs e =
     Decides-like _
     (λ p. record { satisfied = p.0; founded = subst (LeastSet rs s) (same_sets x s p.1.0 p.1.1) least })
     (λ a. (a.satisfied, (least.least s a.founded.closed, a.founded.least x least.closed)))
-    (Decides-and _ _ (Decides-by_and (satisfies? s) (Satisfies s) (all_satisfied? s) (satisfies_decides s) refl (λ _ _. refl) rs)
+    (Decides-and _ _ (Decides-by_and (satisfies? s) (Satisfies s) (list_all (satisfies? s)) (satisfies_decides s) refl (λ _ _. refl) rs)
     (Decides-and _ _ (within_decides x s) (within_decides s x)))
 
 -- ---- every subset of a word
@@ -230,11 +228,10 @@ heads [] = none
 heads (r ∷ rs) = join (head_set r.head) (heads rs)
 
 heads_closed : (s : LiteralSet) (rs : List Rule) (y : LiteralSet) → heads rs ⊑ y → All (ClosedUnder s y) rs
-heads_closed s [] y i = tt
-heads_closed s (r ∷ rs) y i = (
-  λ active wanted k g. i k ((union_is (head_set r.head) (heads rs)).left k (gives_head r.head s k g)),
-  heads_closed s rs y (λ k h. i k ((union_is (head_set r.head) (heads rs)).right k h)),
-)
+heads_closed s [] y i = All-nil (ClosedUnder s y)
+heads_closed s (r ∷ rs) y i =
+    All-cons (ClosedUnder s y) r rs (λ active wanted k g. i k ((union_is (head_set r.head) (heads rs)).left k (gives_head r.head s k g)))
+    (heads_closed s rs y (λ k h. i k ((union_is (head_set r.head) (heads rs)).right k h)))
 
 -- ---- all answer sets
 
@@ -242,17 +239,16 @@ abbrev same? : LiteralSet → LiteralSet → Bool
 same? s t = within? s t && within? t s
 
 abbrev among? : LiteralSet → List Fit → Bool
-among? s [] = false
-among? s (g ∷ fits) = same? s g.literals || among? s fits
+among? s fits = list_any (λ g. same? s g.literals) fits
 
-among_true : (f : Fit) (fits : List Fit) → among? f.literals fits ≡ true → Has fits f
+among_true : (f : Fit) (fits : List Fit) → among? f.literals fits ≡ true → Contains fits f
 among_true f [] e = absurd (false≢true e)
-among_true f (g ∷ fits) e = ⊎_elim here (λ t. has_append_right (g ∷ []) fits f (among_true f fits t)) (or_cases (same? f.literals g.literals) (among? f.literals fits) e) where
-  here : same? f.literals g.literals ≡ true → Has (g ∷ fits) f
+among_true f (g ∷ fits) e = ⊎_elim here (λ t. Contains-append_right (g ∷ []) fits f (among_true f fits t)) (or_cases (same? f.literals g.literals) (among? f.literals fits) e) where
+  here : same? f.literals g.literals ≡ true → Contains (g ∷ fits) f
   here t =
       let p = and_parts (within? f.literals g.literals) (within? g.literals f.literals) t in
       let eq = same_sets g.literals f.literals ((within_decides g.literals f.literals).0 p.1) ((within_decides f.literals g.literals).0 p.0) in
-      has_append_left (g ∷ []) fits f (subst (Has (g ∷ [])) (known_by_literals g f eq) (has_push [] g))
+      (0, omega arith, known_by_literals g f eq)
 
 -- a set is decided, and listed where it is an answer set
 abbrev listed? : ℕ → List Rule → List Fit → LiteralSet → Bool
@@ -263,7 +259,7 @@ all_listed? n w rs fits =
     (ltb (heads rs).plus (2 ^ w) && ltb (heads rs).minus (2 ^ w))
     && every w (heads rs).plus (λ p. every w (heads rs).minus (λ m. listed? n rs fits (record { plus = p; minus = m })))
 
-all_listed : (n w : ℕ) (rs : List Rule) (fits : List Fit) → all_listed? n w rs fits ≡ true → (f : Fit) → AnswerSet rs f.literals → Has fits f
+all_listed : (n w : ℕ) (rs : List Rule) (fits : List Fit) → all_listed? n w rs fits ≡ true → (f : Fit) → AnswerSet rs f.literals → Contains fits f
 all_listed n w rs fits e f a =
     let h = heads rs in
     let s = f.literals in
@@ -279,13 +275,8 @@ all_listed n w rs fits e f a =
 
 -- ---- the list is right
 
-abbrev all? : {X : Type 0} → (X → Bool) → List X → Bool
-all? f [] = true
-all? f (x ∷ xs) = f x && all? f xs
-
-all_true : {X : Type 0} (f : X → Bool) (P : X → Type 0) → ((x : X) → f x ≡ true → P x) → (xs : List X) → all? f xs ≡ true → All P xs
-all_true f P g [] e = tt
-all_true f P g (x ∷ xs) e = let p = and_parts (f x) (all? f xs) e in (g x p.0, all_true f P g xs p.1)
+all_true : {X : Type 0} (f : X → Bool) (P : X → Type 0) → ((x : X) → f x ≡ true → P x) → (xs : List X) → list_all f xs ≡ true → All P xs
+all_true f P g xs e = All-weaker (λ x. f x ≡ true) P g xs (AllPass-from_list_all f xs e)
 
 abbrev lawful? : ℕ → List Rule → Fit → Bool
 lawful? n rs f = enough? n f.literals rs && answer? n f.literals rs
@@ -298,22 +289,23 @@ before? f g = ltb (place f) (place g)
 
 abbrev ascending? : List Fit → Bool
 ascending? [] = true
-ascending? (f ∷ fits) = all? (before? f) fits && ascending? fits
+ascending? (f ∷ fits) = list_all (before? f) fits && ascending? fits
 
 ascending_true : (fits : List Fit) → ascending? fits ≡ true → Ascending fits
-ascending_true [] e = tt
+ascending_true [] e = λ i j d below inside. absurd (omega arith)
 ascending_true (f ∷ fits) e =
-    let p = and_parts (all? (before? f) fits) (ascending? fits) e in
-    (all_true (before? f) (λ g. place f < place g) (λ g. ltb-true (place f) (place g)) fits p.0, ascending_true fits p.1)
+    let p = and_parts (list_all (before? f) fits) (ascending? fits) e in
+    AllPairs-cons (λ f g. place f < place g) f fits
+    (all_true (before? f) (λ g. place f < place g) (λ g. ltb-true (place f) (place g)) fits p.0) (ascending_true fits p.1)
 
 -- one computed test: n passes are enough for each set, and the heads have w bits
 abbrev pub listing? : ℕ → ℕ → List Rule → List Fit → Bool
-listing? n w rs fits = all_listed? n w rs fits && (all? (lawful? n rs) fits && ascending? fits)
+listing? n w rs fits = all_listed? n w rs fits && (list_all (lawful? n rs) fits && ascending? fits)
 
 pub listing : (n w : ℕ) (rs : List Rule) (fits : List Fit) → listing? n w rs fits ≡ true → Listing rs fits
 listing n w rs fits e =
-    let p = and_parts (all_listed? n w rs fits) (all? (lawful? n rs) fits && ascending? fits) e in
-    let q = and_parts (all? (lawful? n rs) fits) (ascending? fits) p.1 in
+    let p = and_parts (all_listed? n w rs fits) (list_all (lawful? n rs) fits && ascending? fits) e in
+    let q = and_parts (list_all (lawful? n rs) fits) (ascending? fits) p.1 in
     record {
       each = all_true (lawful? n rs) (λ f. AnswerSet rs f.literals) (lawful_true n rs) fits q.0;
       all = all_listed n w rs fits p.0;

@@ -1,16 +1,21 @@
--- The stations, worked through: one computed test each, and the breadth of the last.
-use Rattle.std.proofs.Common.{List, [], ◌∷◌, refl, inl, inr, ⊎_elim}
+-- The stations, worked through: the breadth of the last, and one computed test each.
+use Rattle.std.proofs.Common.{ℕ, ◌^◌, nat_lt, IsTrue, All, List, [], ◌∷◌, refl, inl, inr, ⊎_elim}
+use Rattle.std.proofs.lemmas.Bool.{ltb-true}
+use Rattle.std.proofs.lemmas.List.Elements.{All-from_recursion}
 use lib.Count.{ones, ones_in}
 use Rattle.literals.specs.declared.literal_set.LiteralSet.{LiteralSet}
 use Rattle.literals.specs.Sets.{Lit, In}
+use Rattle.literals.proofs.Bitsets.{none_has}
+use Rattle.picks.specs.declared.fit.Fit.{Fit}
 use Rattle.literals.proofs.SetLaws.{none_in, union_is}
 use Rattle.tables.specs.declared.records.Head.{Head}
 use Rattle.tables.specs.declared.records.Head.TheVariants.{Plain, Constraint, Choice}
 use Rattle.tables.specs.declared.records.Rule.{Rule}
 use Rattle.answer_sets.specs.Rules.{rules_of}
-use Rattle.breadth.specs.Breadth.{InChoice, DecisiveSet}
+use Rattle.breadth.specs.Breadth.{InChoice, DecisiveSet, Breadth}
 use Rattle.breadth.proofs.DecisiveSets.{decisive_none, decisive_one, decisive_both}
-use Rattle.stations.specs.Stations.{Stations, two_choices}
+use Rattle.stations.specs.Listing.{Lists}
+use Rattle.stations.specs.Stations.{Station, atoms, stations, two_choices}
 use Rattle.stations.proofs.Deciding.{none, join, listing}
 
 -- ---- the breadth
@@ -46,15 +51,41 @@ decisive_is (rule ∷ rules) =
     (λ k p. ⊎_elim (λ q. inl q) (λ q. inr (in_choice rule.head k q)) (u.only k p)))
     (decisive_is rules) (union_is here (decisive rules))
 
--- ---- all stations
-
-pub stations_stand : Stations 7
+pub last_broad : Breadth (rules_of two_choices.rows) 4
 unfolding ones ones_in
-stations_stand = record {
-  number = refl;
-  listed = (
-    listing 1 0 _ _ refl,
-    (listing 2 2 _ _ refl, (listing 2 1 _ _ refl, (listing 2 2 _ _ refl, (listing 2 1 _ _ refl, (listing 2 1 _ _ refl, (listing 3 5 _ _ refl, tt)))))),
-  );
-  broad = (decisive (rules_of two_choices.rows), decisive_is (rules_of two_choices.rows), refl);
-}
+last_broad = (decisive (rules_of two_choices.rows), decisive_is (rules_of two_choices.rows), refl)
+
+-- ---- the fits
+
+-- a set of atoms as a fit
+abbrev fit : (word : ℕ) → IsTrue (nat_lt word (2 ^ 64)) → Fit
+fit word below = record { literals = atoms word; sound = (ltb-true word (2 ^ 64) below, ltb-true 0 (2 ^ 64) refl, λ a p. none_has a) }
+
+abbrev Stands : Station → Type 0
+Stands s = Lists (rules_of s.rows) s.fits
+
+pub all_listed : All Stands stations
+unfolding ones ones_in
+all_listed =
+    All-from_recursion Stands stations (
+      (fit 0 refl ∷ [], refl, listing 1 0 _ _ refl),
+      (
+        (fit 1 refl ∷ (fit 2 refl ∷ []), refl, listing 2 2 _ _ refl),
+        (
+          ([], refl, listing 2 1 _ _ refl),
+          (
+            (fit 0 refl ∷ [], refl, listing 2 2 _ _ refl),
+            (
+              (fit 0 refl ∷ (fit 1 refl ∷ []), refl, listing 2 1 _ _ refl),
+              (
+                (fit 0 refl ∷ [], refl, listing 2 1 _ _ refl),
+                (
+                  (fit 0x0a refl ∷ (fit 0x15 refl ∷ (fit 0x19 refl ∷ [])), refl, listing 3 5 _ _ refl),
+                  tt,
+                ),
+              ),
+            ),
+          ),
+        ),
+      ),
+    )

@@ -8,25 +8,20 @@ ghost use Rattle.tables.specs.Tables.{Idle};
 use crate::row::{AlternativeRow, PenaltyRow, RuleRow, WishRow};
 use literals::{Condition, LiteralSet};
 
-const ALWAYS: Condition = Condition {
-    wanted: LiteralSet::EMPTY,
-    absent: LiteralSet::EMPTY,
-};
-
 // An atom with its strong negation, so no fit.
 pub const FIT_FILLER: LiteralSet = LiteralSet { plus: 1, minus: 1 };
 
 impl RuleRow {
     pub const FILLER: RuleRow = RuleRow::Plain {
         code: 255,
-        body: ALWAYS,
+        body: Condition::ALWAYS,
     };
 }
 
 impl WishRow {
     pub const FILLER: WishRow = WishRow {
         rank: 0,
-        body: ALWAYS,
+        body: Condition::ALWAYS,
     };
 }
 
@@ -34,14 +29,14 @@ impl AlternativeRow {
     pub const FILLER: AlternativeRow = AlternativeRow {
         wish: 0,
         level: 0,
-        condition: ALWAYS,
+        condition: Condition::ALWAYS,
     };
 }
 
 impl PenaltyRow {
     pub const FILLER: PenaltyRow = PenaltyRow {
         level: 0,
-        condition: ALWAYS,
+        condition: Condition::ALWAYS,
     };
 }
 

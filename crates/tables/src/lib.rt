@@ -5,9 +5,12 @@ mod filler;
 mod making;
 mod records;
 mod row;
+mod table;
 #[cfg(test)]
 mod tests;
 
 pub use filler::{FIT_FILLER, fillers_are_idle};
+pub use making::Record;
 pub use records::{Alternative, Choice, Head, Penalty, Rule, Wish};
-pub use row::{AlternativeRow, PenaltyRow, RuleRow, WishRow};
+pub use row::{AlternativeRow, PenaltyRow, Row, RuleRow, WishRow};
+pub use table::Records;

@@ -1,19 +1,47 @@
 // Records made of rows, and the rows of records.
-ghost use Rattle.std.specs.Prelude.{◌≡◌};
+ghost use Rattle.std.specs.Prelude.{◌≡◌, Bool, Option};
 ghost use Rattle.tables.specs.Rows.{makes_rule, makes_wish, makes_alternative, makes_penalty};
 ghost use Rattle.tables.specs.Making.{rule_row, rule_of, wish_row, wish_of, alternative_row, alternative_of, penalty_row, penalty_of};
 ghost use Rattle.tables.specs.Tables.{or_refused, Judged, Faithful};
 
 use crate::records::{Alternative, Choice, Head, Penalty, Rule, Wish};
-use crate::row::{AlternativeRow, PenaltyRow, RuleRow, WishRow};
+use crate::row::{AlternativeRow, PenaltyRow, Row, RuleRow, WishRow};
 use literals::{Literal, RecordFault};
 
-impl Rule {
-    // The rule of a row, where it makes one.
-    pub fn new(row: RuleRow) -> Result<Rule, RecordFault>
-        ensures made { result ≡ or_refused (rule_of row) }
-        ensures judged { Judged (makes_rule row) rule_row row result }
-    {
+// What a valid row makes. A record determines its row and is determined by it: that ties both ways, so they stand in one trait,
+// and not in `TryFrom` and `From`. Three of the four `new` have one form; a body for all would have to make a record of a row that
+// is known to be valid, by a public function with a premise.
+pub trait Record: Sized {
+    type Row: Copy;
+
+    // the test that a row has to pass, the record of a row that does, and the row of a record
+    ghost makes: { Self.Row → Bool };
+
+    ghost of: { Self.Row → Option Self };
+
+    ghost row_of: { Self → Self.Row };
+
+    // The record of a row, where it makes one.
+    fn new(row: Self::Row) -> Result<Self, RecordFault>
+        ensures made { result ≡ or_refused (of row) }
+        ensures judged { Judged (makes row) row_of row result };
+
+    // The row that makes this record.
+    fn row(&self) -> Self::Row
+        ensures row { result ≡ row_of self.now }
+        ensures faithful { Faithful makes of row_of };
+}
+
+impl Record for Rule {
+    type Row = RuleRow;
+
+    ghost makes = { makes_rule };
+
+    ghost of = { rule_of };
+
+    ghost row_of = { rule_row };
+
+    fn new(row: RuleRow) -> Result<Rule, RecordFault> {
         match row {
             RuleRow::Plain { code, body } => {
                 let Some(literal) = Literal::new(code) else {
@@ -32,7 +60,7 @@ impl Rule {
                 head,
                 body,
             } => {
-                if !row.makes_rule() {
+                if !row.makes_record() {
                     return Err(RecordFault::OutOfRange);
                 }
                 let choice = Choice {
@@ -48,11 +76,8 @@ impl Rule {
         }
     }
 
-    // The row that makes this rule. A rule determines its row and is determined by it.
-    pub fn row(&self) -> RuleRow
-        ensures row { result ≡ rule_row self.now }
-        ensures faithful { Faithful makes_rule rule_of rule_row }
-    {
+    #[tactic(auto, using(crate::proofs::Faithfulness::rule_faithful))]
+    fn row(&self) -> RuleRow {
         let body = self.body;
         match self.head {
             Head::Plain(literal) => RuleRow::Plain {
@@ -70,36 +95,41 @@ impl Rule {
     }
 }
 
-impl Wish {
-    // The wish of a row, where it makes one.
-    pub fn new(row: WishRow) -> Result<Wish, RecordFault>
-        ensures made { result ≡ or_refused (wish_of row) }
-        ensures judged { Judged (makes_wish row) wish_row row result }
-    {
-        if !row.makes_wish() {
+impl Record for Wish {
+    type Row = WishRow;
+
+    ghost makes = { makes_wish };
+
+    ghost of = { wish_of };
+
+    ghost row_of = { wish_row };
+
+    fn new(row: WishRow) -> Result<Wish, RecordFault> {
+        if !row.makes_record() {
             return Err(RecordFault::OutOfRange);
         }
         let WishRow { rank, body } = row;
         Ok(Wish { rank, body })
     }
 
-    // The row that makes this wish. A wish determines its row and is determined by it.
-    pub fn row(&self) -> WishRow
-        ensures row { result ≡ wish_row self.now }
-        ensures faithful { Faithful makes_wish wish_of wish_row }
-    {
+    #[tactic(auto, using(crate::proofs::Faithfulness::wish_faithful))]
+    fn row(&self) -> WishRow {
         let Wish { rank, body } = *self;
         WishRow { rank, body }
     }
 }
 
-impl Alternative {
-    // The alternative of a row, where it makes one.
-    pub fn new(row: AlternativeRow) -> Result<Alternative, RecordFault>
-        ensures made { result ≡ or_refused (alternative_of row) }
-        ensures judged { Judged (makes_alternative row) alternative_row row result }
-    {
-        if !row.makes_alternative() {
+impl Record for Alternative {
+    type Row = AlternativeRow;
+
+    ghost makes = { makes_alternative };
+
+    ghost of = { alternative_of };
+
+    ghost row_of = { alternative_row };
+
+    fn new(row: AlternativeRow) -> Result<Alternative, RecordFault> {
+        if !row.makes_record() {
             return Err(RecordFault::OutOfRange);
         }
         Ok(Alternative {
@@ -109,11 +139,8 @@ impl Alternative {
         })
     }
 
-    // The row that makes this alternative. An alternative determines its row and is determined by it.
-    pub fn row(&self) -> AlternativeRow
-        ensures row { result ≡ alternative_row self.now }
-        ensures faithful { Faithful makes_alternative alternative_of alternative_row }
-    {
+    #[tactic(auto, using(crate::proofs::Faithfulness::alternative_faithful))]
+    fn row(&self) -> AlternativeRow {
         AlternativeRow {
             wish: self.wish,
             level: self.level,
@@ -122,24 +149,25 @@ impl Alternative {
     }
 }
 
-impl Penalty {
-    // The penalty of a row, where it makes one.
-    pub fn new(row: PenaltyRow) -> Result<Penalty, RecordFault>
-        ensures made { result ≡ or_refused (penalty_of row) }
-        ensures judged { Judged (makes_penalty row) penalty_row row result }
-    {
-        if !row.makes_penalty() {
+impl Record for Penalty {
+    type Row = PenaltyRow;
+
+    ghost makes = { makes_penalty };
+
+    ghost of = { penalty_of };
+
+    ghost row_of = { penalty_row };
+
+    fn new(row: PenaltyRow) -> Result<Penalty, RecordFault> {
+        if !row.makes_record() {
             return Err(RecordFault::OutOfRange);
         }
         let PenaltyRow { level, condition } = row;
         Ok(Penalty { level, condition })
     }
 
-    // The row that makes this penalty. A penalty determines its row and is determined by it.
-    pub fn row(&self) -> PenaltyRow
-        ensures row { result ≡ penalty_row self.now }
-        ensures faithful { Faithful makes_penalty penalty_of penalty_row }
-    {
+    #[tactic(auto, using(crate::proofs::Faithfulness::penalty_faithful))]
+    fn row(&self) -> PenaltyRow {
         let Penalty { level, condition } = *self;
         PenaltyRow { level, condition }
     }

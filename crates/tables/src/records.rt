@@ -1,4 +1,5 @@
 // Records: what valid rows make. The numbers of a record lie in their ranges, by its ghost field, so no invalid record can exist.
+// A record has the fields of its row, and code reads them as fields: one generic type of valid rows would hide them behind a call.
 ghost use Rattle.std.specs.Prelude.{◌≤◌};
 ghost use Rattle.literals.specs.Sets.{size};
 

@@ -1,10 +1,19 @@
 // Rows of tables: plain numbers, of any value that their types hold. A row that makes no record counts for nothing; among
 // wishes it keeps its place, since alternatives name wishes by their place.
 // A row of a table of fits is a `LiteralSet`: it makes a fit where it is consistent.
-ghost use Rattle.std.specs.Prelude.{◌≡◌};
-ghost use Rattle.tables.specs.Rows.{makes_rule, makes_wish, makes_alternative, makes_penalty};
+ghost use Rattle.std.specs.Prelude.{◌≡◌, Bool};
+ghost use Rattle.tables.specs.Rows.{makes_rule, makes_wish, makes_alternative, makes_penalty, makes_fit};
 
 use literals::{Condition, LiteralSet};
+
+// A row of a table, which may make a record.
+pub trait Row {
+    ghost makes: { Self → Bool };
+
+    // Whether the row makes a record.
+    fn makes_record(&self) -> bool
+        ensures { result ≡ makes self.now };
+}
 
 // A rule: what follows where its body holds.
 #[derive(Clone, Copy, PartialEq, Eq, Debug)]
@@ -34,7 +43,8 @@ pub struct WishRow {
     pub body: Condition,
 }
 
-// An alternative of the wish with the number `wish` in its table, from 0: how good it is, level 1 being best, and when it holds.
+// An alternative of the wish with the number `wish` in its table, from 0, as the order of a text tells it: how good it is, level 1
+// being best, and when it holds.
 #[derive(Clone, Copy, PartialEq, Eq, Debug)]
 pub struct AlternativeRow {
     pub wish: usize,
@@ -49,11 +59,10 @@ pub struct PenaltyRow {
     pub condition: Condition,
 }
 
-impl RuleRow {
-    // Whether the row makes a rule.
-    pub fn makes_rule(&self) -> bool
-        ensures { result ≡ makes_rule self.now }
-    {
+impl Row for RuleRow {
+    ghost makes = { makes_rule };
+
+    fn makes_record(&self) -> bool {
         match *self {
             RuleRow::Plain { code, body: _ } => code <= 127,
             RuleRow::Constraint { body: _ } => true,
@@ -70,29 +79,35 @@ impl RuleRow {
     }
 }
 
-impl WishRow {
-    // Whether the row makes a wish.
-    pub fn makes_wish(&self) -> bool
-        ensures { result ≡ makes_wish self.now }
-    {
-        1 <= self.rank && self.rank <= 16
+impl Row for WishRow {
+    ghost makes = { makes_wish };
+
+    fn makes_record(&self) -> bool {
+        (1..=16).contains(&self.rank)
     }
 }
 
-impl AlternativeRow {
-    // Whether the row makes an alternative.
-    pub fn makes_alternative(&self) -> bool
-        ensures { result ≡ makes_alternative self.now }
-    {
-        1 <= self.level && self.level <= 8
+impl Row for AlternativeRow {
+    ghost makes = { makes_alternative };
+
+    fn makes_record(&self) -> bool {
+        (1..=8).contains(&self.level)
     }
 }
 
-impl PenaltyRow {
-    // Whether the row makes a penalty.
-    pub fn makes_penalty(&self) -> bool
-        ensures { result ≡ makes_penalty self.now }
-    {
-        1 <= self.level && self.level <= 16
+impl Row for PenaltyRow {
+    ghost makes = { makes_penalty };
+
+    fn makes_record(&self) -> bool {
+        (1..=16).contains(&self.level)
+    }
+}
+
+// The row of a fit.
+impl Row for LiteralSet {
+    ghost makes = { makes_fit };
+
+    fn makes_record(&self) -> bool {
+        self.is_consistent()
     }
 }

@@ -1,49 +1,52 @@
 // The ends of each range.
 use crate::filler::FIT_FILLER;
+use crate::making::Record;
 use crate::records::{Alternative, Penalty, Rule, Wish};
 use crate::row::{AlternativeRow, PenaltyRow, RuleRow, WishRow};
 use literals::{Condition, LiteralSet};
 
-const ALWAYS: Condition = Condition {
-    wanted: LiteralSet::EMPTY,
-    absent: LiteralSet::EMPTY,
-};
+// Whether a row makes a record.
+fn makes<R: Record + Copy>(row: R::Row) -> bool {
+    R::new(row).is_ok()
+}
 
 fn plain(code: u8) -> bool {
-    Rule::new(RuleRow::Plain { code, body: ALWAYS }).is_ok()
+    makes::<Rule>(RuleRow::Plain {
+        code,
+        body: Condition::ALWAYS,
+    })
 }
 
 // A choice among three literals.
 fn choice(least: u8, greatest: u8) -> bool {
-    let head = LiteralSet { plus: 5, minus: 1 };
-    Rule::new(RuleRow::Choice {
+    makes::<Rule>(RuleRow::Choice {
         least,
         greatest,
-        head,
-        body: ALWAYS,
+        head: LiteralSet { plus: 5, minus: 1 },
+        body: Condition::ALWAYS,
     })
-    .is_ok()
 }
 
 fn wish(rank: u8) -> bool {
-    Wish::new(WishRow { rank, body: ALWAYS }).is_ok()
+    makes::<Wish>(WishRow {
+        rank,
+        body: Condition::ALWAYS,
+    })
 }
 
 fn alternative(level: u8) -> bool {
-    Alternative::new(AlternativeRow {
+    makes::<Alternative>(AlternativeRow {
         wish: 0,
         level,
-        condition: ALWAYS,
+        condition: Condition::ALWAYS,
     })
-    .is_ok()
 }
 
 fn penalty(level: u8) -> bool {
-    Penalty::new(PenaltyRow {
+    makes::<Penalty>(PenaltyRow {
         level,
-        condition: ALWAYS,
+        condition: Condition::ALWAYS,
     })
-    .is_ok()
 }
 
 #[test]
@@ -67,9 +70,9 @@ fn empty_heads(rt: HostRuntime) {
         least: 0,
         greatest: 0,
         head: LiteralSet::EMPTY,
-        body: ALWAYS,
+        body: Condition::ALWAYS,
     };
-    assert_eq!(rt; Rule::new(row).is_ok(), false);
+    assert_eq!(rt; makes::<Rule>(row), false);
 }
 
 #[test]
@@ -98,9 +101,9 @@ fn levels_of_penalties(rt: HostRuntime) {
 
 #[test]
 fn fillers(rt: HostRuntime) {
-    assert_eq!(rt; Rule::new(RuleRow::FILLER).is_ok(), false);
-    assert_eq!(rt; Wish::new(WishRow::FILLER).is_ok(), false);
-    assert_eq!(rt; Alternative::new(AlternativeRow::FILLER).is_ok(), false);
-    assert_eq!(rt; Penalty::new(PenaltyRow::FILLER).is_ok(), false);
+    assert_eq!(rt; makes::<Rule>(RuleRow::FILLER), false);
+    assert_eq!(rt; makes::<Wish>(WishRow::FILLER), false);
+    assert_eq!(rt; makes::<Alternative>(AlternativeRow::FILLER), false);
+    assert_eq!(rt; makes::<Penalty>(PenaltyRow::FILLER), false);
     assert_eq!(rt; FIT_FILLER.is_consistent(), false);
 }

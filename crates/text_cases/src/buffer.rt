@@ -1,5 +1,5 @@
 // Buffers to write to: what they are full of before, and how they are shown after.
-use std::alloc::{AllocError, Global};
+use std::fmt;
 
 // The byte that a buffer is full of before a case.
 pub const UNTOUCHED: u8 = b'.';
@@ -9,34 +9,34 @@ const LONGEST_SHOWN: usize = 2000;
 
 // Whether nothing has been written to a buffer.
 pub fn is_untouched(buffer: &[u8]) -> bool {
-    for byte in buffer {
-        if *byte != UNTOUCHED {
-            return false;
-        }
-    }
-    true
+    buffer.iter().all(|byte| *byte == UNTOUCHED)
 }
 
-// A buffer as one line, with `/` for the line feed; of a long one, only whether the bytes behind the first ones are untouched.
-pub fn shown(heap: Global, buffer: &[u8], count: usize) -> Result<String, AllocError> {
-    if buffer.len() > LONGEST_SHOWN {
-        let behind = buffer.get(count..buffer.len()).unwrap_or(buffer);
-        return String::from_str(
-            heap,
-            if is_untouched(behind) {
+// A buffer with so many bytes written at its front. It is shown as one line, with `/` for the line feed; of a long one, only
+// whether the bytes behind the first ones are untouched.
+#[derive(Clone, Copy)]
+pub struct Written<'a> {
+    pub count: usize,
+    pub buffer: &'a [u8],
+}
+
+impl fmt::Display for Written<'_> {
+    fn fmt<W: fmt::Write>(&self, f: &mut fmt::Formatter<W>) -> fmt::Result {
+        if self.buffer.len() > LONGEST_SHOWN {
+            let behind = self.buffer.get(self.count..).unwrap_or(self.buffer);
+            return f.write_str(if is_untouched(behind) {
                 "too long to be shown"
             } else {
                 "BAD bytes behind"
-            },
-        );
+            });
+        }
+        for byte in self.buffer {
+            f.write_char(if *byte == b'\n' {
+                '/'
+            } else {
+                char::from(*byte)
+            })?;
+        }
+        Ok(())
     }
-    let mut text = String::new(heap);
-    for byte in buffer {
-        text.push(if *byte == b'\n' {
-            '/'
-        } else {
-            char::from(*byte)
-        })?;
-    }
-    Ok(text)
 }

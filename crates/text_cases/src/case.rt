@@ -1,91 +1,69 @@
 // One case: its words tell what is tried.
 use crate::reading::read_text;
-use crate::rows::{book_of, catalogue_of};
 use crate::text::text_of;
-use crate::text_tables::{Book, Catalogue};
-use crate::words::columns_of;
-use crate::writing::{try_more, try_refusal, try_row, write_text};
+use crate::text_tables::{BookCase, CatalogueCase, TextTables};
+use crate::words::values_of;
+use crate::writing::try_write;
 use anyhow::anyhow;
+use frames::{write_more, write_refusal, write_row};
 use std::alloc::Global;
-use texts::BookSize;
 
 // A case that lacks words.
-fn lacking<T>() -> anyhow::Result<T> {
+pub fn lacking<T>() -> anyhow::Result<T> {
     Err(anyhow!("a case lacks words"))
 }
 
-fn read_book_case(heap: Global, words: &[&str]) -> anyhow::Result<String> {
-    let [rules, wishes, alternatives, text @ ..] = words else {
-        return lacking();
-    };
-    let lengths = BookSize {
-        rules: rules.parse::<usize>()?,
-        wishes: wishes.parse::<usize>()?,
-        alternatives: alternatives.parse::<usize>()?,
-    };
-    let text = text_of(heap, text)?;
-    Ok(read_text(heap, text.as_slice(), &mut Book::new(heap, lengths)?)?)
-}
-
-fn read_catalogue_case(heap: Global, words: &[&str]) -> anyhow::Result<String> {
-    let [fits, text @ ..] = words else {
-        return lacking();
-    };
-    let mut tables = Catalogue::new(heap, fits.parse::<usize>()?)?;
+// The words tell how long the tables are, and then the text.
+fn read_case<T: TextTables>(heap: Global, words: &[&str]) -> anyhow::Result<String> {
+    let (mut tables, text) = T::of_lengths(heap, words)?;
     let text = text_of(heap, text)?;
     Ok(read_text(heap, text.as_slice(), &mut tables)?)
 }
 
-fn write_book_case(heap: Global, words: &[&str]) -> anyhow::Result<String> {
+fn write_case<T: TextTables>(heap: Global, words: &[&str]) -> anyhow::Result<String> {
     let [room, rows @ ..] = words else {
         return lacking();
     };
-    let tables = book_of(heap, rows)?;
-    Ok(write_text(heap, &tables, room.parse::<usize>()?)?)
-}
-
-fn write_catalogue_case(heap: Global, words: &[&str]) -> anyhow::Result<String> {
-    let [room, rows @ ..] = words else {
-        return lacking();
-    };
-    let tables = catalogue_of(heap, rows)?;
-    Ok(write_text(heap, &tables, room.parse::<usize>()?)?)
+    let tables = T::of_rows(heap, rows)?;
+    Ok(try_write(heap, room.parse::<usize>()?, |out| tables.write(out))?)
 }
 
 fn row_case(heap: Global, words: &[&str]) -> anyhow::Result<String> {
     let [room, columns @ ..] = words else {
         return lacking();
     };
-    let columns = columns_of(heap, columns)?;
-    Ok(try_row(heap, columns.as_slice(), room.parse::<usize>()?)?)
+    let columns = values_of(heap, columns, |column| Ok(column.parse::<u64>()?))?;
+    let columns = columns.as_slice();
+    Ok(try_write(heap, room.parse::<usize>()?, |out| write_row(columns, out))?)
 }
 
 fn more_case(heap: Global, words: &[&str]) -> anyhow::Result<String> {
     let [room] = words else {
         return lacking();
     };
-    Ok(try_more(heap, room.parse::<usize>()?)?)
+    Ok(try_write(heap, room.parse::<usize>()?, |out| write_more(out))?)
 }
 
 fn refusal_case(heap: Global, words: &[&str]) -> anyhow::Result<String> {
     let [room, number, line] = words else {
         return lacking();
     };
-    let number = number.parse::<u8>()?;
-    let line = line.parse::<u32>()?;
-    Ok(try_refusal(heap, number, line, room.parse::<usize>()?)?)
+    let refusal = (number.parse::<u8>()?, line.parse::<u32>()?);
+    Ok(try_write(heap, room.parse::<usize>()?, |out| {
+        write_refusal(&refusal, out)
+    })?)
 }
 
-// What comes of the case of these words, the first telling its kind.
+// What comes of the case of these words, the first telling its kind: the input's own words for the calls.
 fn try_case(heap: Global, words: &[&str]) -> anyhow::Result<String> {
     let [kind, words @ ..] = words else {
         return lacking();
     };
     match *kind {
-        "book" => read_book_case(heap, words),
-        "catalogue" => read_catalogue_case(heap, words),
-        "write-book" => write_book_case(heap, words),
-        "write-catalogue" => write_catalogue_case(heap, words),
+        "book" => read_case::<BookCase>(heap, words),
+        "catalogue" => read_case::<CatalogueCase>(heap, words),
+        "write-book" => write_case::<BookCase>(heap, words),
+        "write-catalogue" => write_case::<CatalogueCase>(heap, words),
         "row" => row_case(heap, words),
         "more" => more_case(heap, words),
         "refusal" => refusal_case(heap, words),

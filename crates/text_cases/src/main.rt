@@ -11,6 +11,7 @@ mod buffer;
 mod case;
 mod reading;
 mod rows;
+mod table;
 mod text;
 mod text_tables;
 mod words;

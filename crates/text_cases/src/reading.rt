@@ -1,27 +1,23 @@
 // Reading a text into tables of fillers; an accepted one is written again.
 use crate::buffer::{UNTOUCHED, is_untouched};
 use crate::text_tables::TextTables;
+use literals::Numbered;
 use std::alloc::{AllocError, Global};
-use texts::Refusal;
+use texts::{Fault, Refusal};
 
-// Whether the tables give the text again, in a buffer of just its length.
+// Whether the tables give the text again, in a buffer of just its length. Text and tables stay two parameters, here and below,
+// since reading the one changes the other.
 fn gives_again<T: TextTables>(heap: Global, text: &[u8], tables: &T) -> Result<bool, AllocError> {
     let mut buffer = vec![in heap; UNTOUCHED; text.len()]?;
-    Ok(match tables.write(buffer.as_mut_slice()) {
-        Ok(count) => count == text.len() && buffer.as_slice() == text,
-        Err(_) => false,
-    })
+    let wrote = tables.write(buffer.as_mut_slice());
+    Ok(wrote.is_ok_and(|count| count == text.len()) && buffer.as_slice() == text)
 }
 
 // Whether a buffer with one byte fewer is refused as too short, and left as it was.
 fn refuses_less<T: TextTables>(heap: Global, text: &[u8], tables: &T) -> Result<bool, AllocError> {
     let mut buffer = vec![in heap; UNTOUCHED; text.len().saturating_sub(1)]?;
-    Ok(match tables.write(buffer.as_mut_slice()) {
-        Ok(_) => false,
-        Err(refusal) => refusal.number() == 21
-            && refusal.line == 0
-            && is_untouched(buffer.as_slice()),
-    })
+    let wrote = tables.write(buffer.as_mut_slice());
+    Ok(wrote == Err(Fault::BufferShort.into()) && is_untouched(buffer.as_slice()))
 }
 
 fn accepted<T: TextTables>(heap: Global, text: &[u8], tables: &T) -> Result<String, AllocError> {
@@ -35,7 +31,7 @@ fn accepted<T: TextTables>(heap: Global, text: &[u8], tables: &T) -> Result<Stri
     } else {
         ", BAD answer to a short buffer"
     };
-    let behind = if tables.are_fillers_behind() {
+    let behind = if tables.has_fillers_behind() {
         ""
     } else {
         ", BAD rows behind"
@@ -50,7 +46,7 @@ fn refused<T: TextTables>(
 ) -> Result<String, AllocError> {
     let number = refusal.number();
     let line = refusal.line;
-    let kept = if tables.are_fillers_behind() {
+    let kept = if tables.has_fillers_behind() {
         ""
     } else {
         ", BAD tables"

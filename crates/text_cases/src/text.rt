@@ -1,6 +1,6 @@
 // The text of a case. `/` stands for the line feed, and a few more signs for bytes that a line of input cannot well have.
 use crate::words::repeated;
-use std::alloc::{AllocError, Global};
+use std::alloc::Global;
 
 // The byte that a byte of a case stands for.
 fn meant(byte: u8) -> u8 {
@@ -14,20 +14,13 @@ fn meant(byte: u8) -> u8 {
     }
 }
 
-fn add(text: &mut Vec<u8>, word: &str) -> Result<(), AllocError> {
-    for byte in word.bytes() {
-        text.push(meant(byte))?;
-    }
-    Ok(())
-}
-
 // The text of these words, each behind the one before.
 pub fn text_of(heap: Global, words: &[&str]) -> anyhow::Result<Vec<u8>> {
     let mut text = Vec::new(heap);
     for word in words {
         let (times, once) = repeated(word)?;
         for _ in 0..times {
-            add(&mut text, once)?;
+            text.extend(once.bytes().map(meant))?;
         }
     }
     Ok(text)

@@ -1,86 +1,46 @@
 // The tables of one text: made of fillers to be read into, or filled with the rows of a case.
+use crate::case::lacking;
+use crate::rows::{Row, rows_of};
+use crate::table::Table;
+use anyhow::anyhow;
 use literals::LiteralSet;
-use std::alloc::{AllocError, Global};
+use std::alloc::Global;
 use std::fmt;
 use tables::{AlternativeRow, FIT_FILLER, RuleRow, WishRow};
-use texts::{BookSize, Refusal, read_book, read_catalogue, write_book, write_catalogue};
+use texts::{Book, BookTables, Refusal, read_catalogue, write_catalogue};
 
-// What each kind of text does with its tables. Their rows in use stand in front; shown, tables are the numbers of these.
-pub trait TextTables: fmt::Display {
+// What each kind of text does with its tables. Shown, tables are the numbers of their rows in use.
+pub trait TextTables: fmt::Display + Sized + Drop {
+    // Tables of the lengths that stand first in words, no row being in use, and the words behind those.
+    fn of_lengths<'w, 's>(
+        heap: Global,
+        words: &'w [&'s str],
+    ) -> anyhow::Result<(Self, &'w [&'s str])>;
+
+    // Tables of the rows of these words, all in use.
+    fn of_rows(heap: Global, words: &[&str]) -> anyhow::Result<Self>;
+
     fn read(&mut self, text: &[u8]) -> Result<(), Refusal>;
 
     // Whether the rows behind those in use are fillers.
-    fn are_fillers_behind(&self) -> bool;
+    fn has_fillers_behind(&self) -> bool;
 
     // Writes the text of the rows in use.
     fn write(&self, out: &mut [u8]) -> Result<usize, Refusal>;
 }
 
-// The first rows of a table.
-fn front<T>(rows: &[T], count: usize) -> &[T] {
-    rows.get(0..count).unwrap_or(rows)
-}
-
-// Whether all rows behind the first ones are equal to a filler.
-fn are_behind<T: PartialEq>(rows: &[T], count: usize, filler: &T) -> bool {
-    for row in rows.iter().skip(count) {
-        if row != filler {
-            return false;
-        }
-    }
-    true
-}
-
 #[derive(Drop)]
-pub struct Book {
-    rules: Vec<RuleRow>,
-    wishes: Vec<WishRow>,
-    alternatives: Vec<AlternativeRow>,
-    used: BookSize,
+pub struct BookCase {
+    rules: Table<RuleRow>,
+    wishes: Table<WishRow>,
+    alternatives: Table<AlternativeRow>,
 }
 
-impl Book {
-    // Tables of these lengths, no row being in use.
-    pub fn new(heap: Global, lengths: BookSize) -> Result<Book, AllocError> {
-        Ok(Book {
-            rules: vec![in heap; RuleRow::FILLER; lengths.rules]?,
-            wishes: vec![in heap; WishRow::FILLER; lengths.wishes]?,
-            alternatives: vec![in heap; AlternativeRow::FILLER; lengths.alternatives]?,
-            used: BookSize {
-                rules: 0,
-                wishes: 0,
-                alternatives: 0,
-            },
-        })
-    }
-
-    // Tables with all rows in use.
-    pub fn of(
-        rules: Vec<RuleRow>,
-        wishes: Vec<WishRow>,
-        alternatives: Vec<AlternativeRow>,
-    ) -> Book {
-        let used = BookSize {
-            rules: rules.len(),
-            wishes: wishes.len(),
-            alternatives: alternatives.len(),
-        };
-        Book {
-            rules,
-            wishes,
-            alternatives,
-            used,
-        }
-    }
-}
-
-impl fmt::Display for Book {
+impl fmt::Display for BookCase {
     fn fmt<W: fmt::Write>(&self, f: &mut fmt::Formatter<W>) -> fmt::Result {
-        let BookSize {
-            rules,
-            wishes,
-            alternatives,
-        } = self.used;
+        let rules = self.rules.used;
+        let wishes = self.wishes.used;
+        let alternatives = self.alternatives.used;
         write!(
             f,
             "{rules} rules, {wishes} wishes, {alternatives} alternatives"
@@ -88,77 +48,117 @@ impl fmt::Display for Book {
     }
 }
 
-impl TextTables for Book {
+impl TextTables for BookCase {
+    fn of_lengths<'w, 's>(
+        heap: Global,
+        words: &'w [&'s str],
+    ) -> anyhow::Result<(BookCase, &'w [&'s str])> {
+        let [rules, wishes, alternatives, rest @ ..] = words else {
+            return lacking();
+        };
+        let tables = BookCase {
+            rules: Table::of_fillers(heap, RuleRow::FILLER, rules.parse::<usize>()?)?,
+            wishes: Table::of_fillers(heap, WishRow::FILLER, wishes.parse::<usize>()?)?,
+            alternatives: Table::of_fillers(
+                heap,
+                AlternativeRow::FILLER,
+                alternatives.parse::<usize>()?,
+            )?,
+        };
+        Ok((tables, rest))
+    }
+
+    fn of_rows(heap: Global, words: &[&str]) -> anyhow::Result<BookCase> {
+        let mut tables = BookCase {
+            rules: Table::empty(heap, RuleRow::FILLER),
+            wishes: Table::empty(heap, WishRow::FILLER),
+            alternatives: Table::empty(heap, AlternativeRow::FILLER),
+        };
+        for row in rows_of(heap, words)?.as_slice() {
+            match *row {
+                Row::Rule(rule) => tables.rules.push(rule)?,
+                Row::Wish(wish) => tables.wishes.push(wish)?,
+                Row::Alternative(alternative) => tables.alternatives.push(alternative)?,
+                Row::Fit(_) => return Err(anyhow!("a fit in a book")),
+            }
+        }
+        Ok(tables)
+    }
+
     fn read(&mut self, text: &[u8]) -> Result<(), Refusal> {
-        self.used = read_book(
-            text,
-            self.rules.as_mut_slice(),
-            self.wishes.as_mut_slice(),
-            self.alternatives.as_mut_slice(),
-        )?;
+        let mut tables = BookTables {
+            rules: self.rules.rows.as_mut_slice(),
+            wishes: self.wishes.rows.as_mut_slice(),
+            alternatives: self.alternatives.rows.as_mut_slice(),
+        };
+        let size = tables.read(text)?;
+        self.rules.used = size.rules;
+        self.wishes.used = size.wishes;
+        self.alternatives.used = size.alternatives;
         Ok(())
     }
 
-    fn are_fillers_behind(&self) -> bool {
-        are_behind(self.rules.as_slice(), self.used.rules, &RuleRow::FILLER)
-            && are_behind(self.wishes.as_slice(), self.used.wishes, &WishRow::FILLER)
-            && are_behind(
-                self.alternatives.as_slice(),
-                self.used.alternatives,
-                &AlternativeRow::FILLER,
-            )
+    fn has_fillers_behind(&self) -> bool {
+        self.rules.has_fillers_behind()
+            && self.wishes.has_fillers_behind()
+            && self.alternatives.has_fillers_behind()
     }
 
     fn write(&self, out: &mut [u8]) -> Result<usize, Refusal> {
-        write_book(
-            front(self.rules.as_slice(), self.used.rules),
-            front(self.wishes.as_slice(), self.used.wishes),
-            front(self.alternatives.as_slice(), self.used.alternatives),
-            out,
-        )
+        let book = Book {
+            rules: self.rules.front(),
+            wishes: self.wishes.front(),
+            alternatives: self.alternatives.front(),
+        };
+        book.write(out)
     }
 }
 
 #[derive(Drop)]
-pub struct Catalogue {
-    fits: Vec<LiteralSet>,
-    used: usize,
+pub struct CatalogueCase {
+    fits: Table<LiteralSet>,
 }
 
-impl Catalogue {
-    // A table of this length, no row being in use.
-    pub fn new(heap: Global, length: usize) -> Result<Catalogue, AllocError> {
-        Ok(Catalogue {
-            fits: vec![in heap; FIT_FILLER; length]?,
-            used: 0,
-        })
-    }
-
-    // A table with all rows in use.
-    pub fn of(fits: Vec<LiteralSet>) -> Catalogue {
-        let used = fits.len();
-        Catalogue { fits, used }
-    }
-}
-
-impl fmt::Display for Catalogue {
+impl fmt::Display for CatalogueCase {
     fn fmt<W: fmt::Write>(&self, f: &mut fmt::Formatter<W>) -> fmt::Result {
-        let used = self.used;
+        let used = self.fits.used;
         write!(f, "{used} fits")
     }
 }
 
-impl TextTables for Catalogue {
+impl TextTables for CatalogueCase {
+    fn of_lengths<'w, 's>(
+        heap: Global,
+        words: &'w [&'s str],
+    ) -> anyhow::Result<(CatalogueCase, &'w [&'s str])> {
+        let [fits, rest @ ..] = words else {
+            return lacking();
+        };
+        let fits = Table::of_fillers(heap, FIT_FILLER, fits.parse::<usize>()?)?;
+        Ok((CatalogueCase { fits }, rest))
+    }
+
+    fn of_rows(heap: Global, words: &[&str]) -> anyhow::Result<CatalogueCase> {
+        let mut fits = Table::empty(heap, FIT_FILLER);
+        for row in rows_of(heap, words)?.as_slice() {
+            match *row {
+                Row::Fit(fit) => fits.push(fit)?,
+                _ => return Err(anyhow!("only fits are in a catalogue")),
+            }
+        }
+        Ok(CatalogueCase { fits })
+    }
+
     fn read(&mut self, text: &[u8]) -> Result<(), Refusal> {
-        self.used = read_catalogue(text, self.fits.as_mut_slice())?;
+        self.fits.used = read_catalogue(text, self.fits.rows.as_mut_slice())?;
         Ok(())
     }
 
-    fn are_fillers_behind(&self) -> bool {
-        are_behind(self.fits.as_slice(), self.used, &FIT_FILLER)
+    fn has_fillers_behind(&self) -> bool {
+        self.fits.has_fillers_behind()
     }
 
     fn write(&self, out: &mut [u8]) -> Result<usize, Refusal> {
-        write_catalogue(front(self.fits.as_slice(), self.used), out)
+        write_catalogue(self.fits.front(), out)
     }
 }

@@ -9,13 +9,19 @@ pub fn repeated(word: &str) -> anyhow::Result<(usize, &str)> {
     }
 }
 
-// The numbers of a row of an answer.
-pub fn columns_of(heap: Global, words: &[&str]) -> anyhow::Result<Vec<u64>> {
-    let mut columns = Vec::new(heap);
+// What words stand for, each as often as it is meant.
+pub fn values_of<T: Copy, F: Fn(&str) -> anyhow::Result<T>>(
+    heap: Global,
+    words: &[&str],
+    value_of: F,
+) -> anyhow::Result<Vec<T>>
+    requires { F.IsAlwaysCallable value_of }
+{
+    let mut values = Vec::new(heap);
     for word in words {
-        let (times, column) = repeated(word)?;
-        let copies = vec![in heap; column.parse::<u64>()?; times]?;
-        columns.extend_from_slice(copies.as_slice())?;
+        let (times, once) = repeated(word)?;
+        let copies = vec![in heap; value_of(once)?; times]?;
+        values.extend_from_slice(copies.as_slice())?;
     }
-    Ok(columns)
+    Ok(values)
 }

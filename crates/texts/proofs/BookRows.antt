@@ -1,6 +1,6 @@
 -- The tables that an accepted book gives are writable, and their numbers fit.
-use Rattle.std.proofs.Common.{◌≡◌, ℕ, ◌+◌, ◌-◌, ◌^◌, ◌<◌, ◌≤◌, true, false, cond, not, ltb, leb, List, [], ◌∷◌, ◌++◌, length, Some, None, Option, sym, refl, ap, ◌∙◌, subst, arith}
-use Rattle.std.specs.List.{AllByRecursion as All}
+use Rattle.std.proofs.Common.{◌≡◌, ℕ, ◌+◌, ◌-◌, ◌^◌, ◌<◌, ◌≤◌, true, cond, not, ltb, leb, List, [], ◌∷◌, ◌++◌, length, Some, None, Option, sym, refl, ap, ◌∙◌, subst, arith}
+use Rattle.std.specs.List.{AllByRecursion, list_all, count_by}
 use Rattle.std.proofs.lemmas.List.{length-append}
 use Rattle.std.proofs.lemmas.Bool.{and_parts, and_from, le-leb, lt-ltb, ltb-true, false≢true}
 use Rattle.tables.specs.Rows.{makes_rule, makes_wish, makes_alternative}
@@ -8,31 +8,33 @@ use Rattle.frames.specs.declared.frame.Frame.{Frame}
 use Rattle.frames.specs.declared.frame.Frame.TheVariants.{Rule, RankStep, Wish, Alternative, End, Fit}
 use Rattle.frames.specs.Frames.{RuleFits}
 use Rattle.texts.specs.declared.seen.TextKind.TheVariants.{Book}
-use Rattle.texts.specs.Places.{is_step, is_wish, of_wish, count, last, ended}
+use Rattle.texts.specs.Places.{is_step, is_wish, is_last, of_wish, ended}
 use Rattle.texts.specs.Reading.{limit}
 use Rattle.tables.specs.Tables.{onto}
 use Rattle.texts.specs.Rows.{rule_in, wish_in, alternative_in, rows_from, rows_in, Tables, tables_of}
-use Rattle.texts.specs.Writing.{text_of, ending, book_frames, each, rising, holdable, writable_book}
+use Rattle.texts.specs.Writing.{text_of, ending, book_frames, rising, holdable, writable_book}
 use Rattle.texts.specs.Meaning.{WishFits, AlternativeFits, TablesFit}
-use Rattle.texts.specs.Turns.{AllGood, InTurn}
-use Rattle.texts.proofs.BookTables.{GoodRule, GoodWish, GoodAlternative, ranks, owners}
-use Rattle.texts.proofs.BookTurns.{placed, book_frames_lem}
-use Rattle.texts.proofs.SummaryLaws.{one_more, last_more}
+use Rattle.texts.specs.Turns.{InTurn}
+use Rattle.texts.proofs.BookWritten.{GoodRule, GoodWish, GoodAlternative, ranks, owners}
+use Rattle.texts.proofs.BookTurns.{book_frames_lem}
+use Rattle.texts.proofs.PlaceLaws.{placed, is_last_more}
+use Rattle.texts.proofs.SummaryLaws.{one_more}
+use Rattle.texts.proofs.TurnLaws.{AllGood}
 use Rattle.texts.proofs.TextFrames.{good_last, passed_all}
 
 -- The rows that frames give behind s steps and n wishes: each makes a record, ranks rise, and alternatives stand in the order
 -- of their wishes, which are among the first N.
 record Lawful (N s n : ℕ) (tail : List Frame) : Type 0 where
-  rules : All GoodRule (rows_from rule_in s n tail)
-  wishes : All GoodWish (rows_from wish_in s n tail)
-  alternatives : All GoodAlternative (rows_from alternative_in s n tail)
-  owned : each (λ a. ltb a.wish N) (rows_from alternative_in s n tail) ≡ true
+  rules : AllByRecursion GoodRule (rows_from rule_in s n tail)
+  wishes : AllByRecursion GoodWish (rows_from wish_in s n tail)
+  alternatives : AllByRecursion GoodAlternative (rows_from alternative_in s n tail)
+  owned : list_all (λ a. ltb a.wish N) (rows_from alternative_in s n tail) ≡ true
   ranks_rise : (low : ℕ) → low ≤ s + 1 → rising low (ranks (rows_from wish_in s n tail)) ≡ true
   owners_rise : (low : ℕ) → low ≤ n - 1 → rising low (owners (rows_from alternative_in s n tail)) ≡ true
 
 module _ (N : ℕ) (few : N ≤ 2 ^ 16) where
   -- good frames in turn give lawful rows
-  lawful : (tail before : List Frame) (s n : ℕ) → count is_step before ≡ s → s ≤ 15 → (last of_wish before ≡ true → 1 ≤ n)
+  lawful : (tail before : List Frame) (s n : ℕ) → count_by is_step before ≡ s → s ≤ 15 → (is_last of_wish before ≡ true → 1 ≤ n)
       → n + length (rows_from wish_in s n tail) ≤ N → AllGood tail → InTurn Book before tail → Lawful N s n tail
   lawful [] before s n es h on room g t = record {
     rules = tt;
@@ -43,7 +45,7 @@ module _ (N : ℕ) (few : N ≤ 2 ^ 16) where
     owners_rise = λ low l. refl;
   }
   lawful (Rule row ∷ tail) before s n es h on room g t =
-      let next = lawful tail (before ++ Rule row ∷ []) (s + 0) (n + 0) (one_more is_step (Rule row) before ∙ ap (λ k. k + 0) es) (omega arith) (λ e. absurd (false≢true (sym (last_more false of_wish (Rule row) before) ∙ e))) (omega arith) g.1 t.1 in
+      let next = lawful tail (before ++ Rule row ∷ []) (s + 0) (n + 0) (one_more is_step (Rule row) before ∙ ap (λ k. k + 0) es) (omega arith) (λ e. absurd (false≢true (sym (is_last_more of_wish (Rule row) before) ∙ e))) (omega arith) g.1 t.1 in
       record {
         rules = (g.0, next.rules);
         wishes = next.wishes;
@@ -53,8 +55,8 @@ module _ (N : ℕ) (few : N ≤ 2 ^ 16) where
         owners_rise = λ low l. next.owners_rise low (omega arith);
       }
   lawful (RankStep ∷ tail) before s n es h on room g t =
-      let more = ltb-true (count is_step before) 15 (and_parts (not (ended before)) (ltb (count is_step before) 15) (placed Book before RankStep t.0).0).1 in
-      let next = lawful tail (before ++ RankStep ∷ []) (s + 1) (n + 0) (one_more is_step RankStep before ∙ ap (λ k. k + 1) es) (omega arith) (λ e. absurd (false≢true (sym (last_more false of_wish RankStep before) ∙ e))) (omega arith) g.1 t.1 in
+      let more = ltb-true (count_by is_step before) 15 (and_parts (not (ended before)) (ltb (count_by is_step before) 15) (placed Book before RankStep t.0).0).1 in
+      let next = lawful tail (before ++ RankStep ∷ []) (s + 1) (n + 0) (one_more is_step RankStep before ∙ ap (λ k. k + 1) es) (omega arith) (λ e. absurd (false≢true (sym (is_last_more of_wish RankStep before) ∙ e))) (omega arith) g.1 t.1 in
       record {
         rules = next.rules;
         wishes = next.wishes;
@@ -86,7 +88,7 @@ module _ (N : ℕ) (few : N ≤ 2 ^ 16) where
         owners_rise = λ low l. and_from (leb low (n - 1)) _ (le-leb low (n - 1) l) (next.owners_rise (n - 1) (omega arith));
       }
   lawful (End k ∷ tail) before s n es h on room g t =
-      let next = lawful tail (before ++ End k ∷ []) (s + 0) (n + 0) (one_more is_step (End k) before ∙ ap (λ j. j + 0) es) (omega arith) (λ e. absurd (false≢true (sym (last_more false of_wish (End k) before) ∙ e))) (omega arith) g.1 t.1 in
+      let next = lawful tail (before ++ End k ∷ []) (s + 0) (n + 0) (one_more is_step (End k) before ∙ ap (λ j. j + 0) es) (omega arith) (λ e. absurd (false≢true (sym (is_last_more of_wish (End k) before) ∙ e))) (omega arith) g.1 t.1 in
       record {
         rules = next.rules;
         wishes = next.wishes;
@@ -125,5 +127,5 @@ book_writable fs good turn done short =
     let within : length (text_of (ending (book_frames t))) ≤ limit = let e = ap (λ x. length (text_of x)) is in omega arith in
     let held : holdable (book_frames t) ≡ true = and_from _ _ (le-leb (length (text_of (ending (book_frames t)))) limit within) (lt-ltb number 65536 few) in (
       (fit_rules, fit_wishes, fit_alternatives),
-      and_from _ _ made_rules (and_from _ _ made_wishes (and_from _ _ made_alternatives (and_from _ _ (and_from _ _ (law.ranks_rise 0 (omega arith)) (and_from _ _ (law.owners_rise 0 (omega arith)) law.owned)) held))),
+      and_from _ _ (and_from _ _ made_rules (and_from _ _ made_wishes (and_from _ _ made_alternatives (and_from _ _ (law.ranks_rise 0 (omega arith)) (and_from _ _ (law.owners_rise 0 (omega arith)) law.owned))))) held,
     )

@@ -1,5 +1,7 @@
 -- Frames in turn in a book are the frames of the tables that they give.
-use Rattle.std.proofs.Common.{◌≡◌, ℕ, suc, ◌+◌, ◌-◌, ◌<◌, ◌≤◌, Bool, true, false, cond, not, ◌&&◌, List, [], ◌∷◌, ◌++◌, map, length, Ok, Err, Result, sym, refl, ap, ◌∙◌, subst, arith}
+use Rattle.std.proofs.Common.{◌≡◌, ℕ, suc, ◌+◌, ◌-◌, ◌<◌, ◌≤◌, Bool, true, false, not, ◌&&◌, List, [], ◌∷◌, ◌++◌, map, length, replicate, sym, refl, ap, ◌∙◌, subst, arith}
+use Rattle.std.specs.List.{list_all}
+use Rattle.std.proofs.lemmas.List.Folds.{list_all-append}
 use Rattle.std.proofs.lemmas.List.{append_assoc, append-nil, length-append}
 use Rattle.std.proofs.lemmas.Bool.{and_parts, and_right, eq-eqb, ne_eqb, eqb-true, cond-true, cond-false, false≢true}
 use Rattle.literals.specs.declared.condition.Condition.{Condition}
@@ -7,54 +9,25 @@ use Rattle.tables.specs.declared.row.WishRow.{WishRow}
 use Rattle.tables.specs.declared.row.AlternativeRow.{AlternativeRow}
 use Rattle.frames.specs.declared.frame.Frame.{Frame}
 use Rattle.frames.specs.declared.frame.Frame.TheVariants.{Rule, RankStep, Wish, Alternative, End, Fit}
-use Rattle.texts.specs.declared.fault.Fault.{Fault}
-use Rattle.texts.specs.declared.fault.Fault.TheVariants.{Place, Count}
-use Rattle.texts.specs.declared.seen.TextKind.{TextKind}
 use Rattle.texts.specs.declared.seen.TextKind.TheVariants.{Book}
-use Rattle.texts.specs.Places.{is_rule, is_step, of_wish, every, some, last_or, last, ended, in_place}
-use Rattle.texts.specs.Reading.{counts, admitted}
+use Rattle.texts.specs.Places.{is_rule, is_step, is_last, of_wish, ended}
 use Rattle.texts.specs.Rows.{rule_in, wish_in, alternative_in, rows_from, tables_of}
-use Rattle.texts.specs.Writing.{steps, alternative_frame, of_last, past_last, wish_frames, book_frames, ending}
+use Rattle.texts.specs.Writing.{alternative_frame, of_last, past_last, wish_frames, book_frames, ending}
 use Rattle.texts.specs.Turns.{InTurn}
-use Rattle.frames.proofs.DigitLaws.{ok_err}
-use Rattle.texts.proofs.SummaryLaws.{end_ended, ended_still, last_more}
+use Rattle.texts.proofs.PlaceLaws.{placed, ended_still, is_last_more, on_step, never_ended, never_wish, none_behind}
 
--- an admitted frame is in its place, and counts
-admitted_parts : (p c : Bool) → ◌≡◌ {A = Result (Unit {0}) Fault} (cond p (cond c (Ok tt) (Err Count)) (Err Place)) (Ok tt) → (p ≡ true) × (c ≡ true)
-admitted_parts true true e = (refl, refl)
-admitted_parts true false e = absurd (ok_err (sym e))
-admitted_parts false c e = absurd (ok_err (sym e))
-
-pub placed : (kind : TextKind) (before : List Frame) (f : Frame) → admitted kind before f ≡ Ok tt → (in_place kind before f ≡ true) × (counts before f ≡ true)
-placed kind before f e = admitted_parts (in_place kind before f) (counts before f) e
-
-and_assoc : (a b c : Bool) → a && (b && c) ≡ (a && b) && c
-and_assoc true b c = refl
-and_assoc false b c = refl
-
-pub every_more : (p : Frame → Bool) (f : Frame) (fs : List Frame) → every p (fs ++ f ∷ []) ≡ every p fs && p f
-every_more p f [] = and_true (p f)
+pub all_more : (p : Frame → Bool) (f : Frame) (fs : List Frame) → list_all p (fs ++ f ∷ []) ≡ list_all p fs && p f
+all_more p f fs = list_all-append p fs (f ∷ []) ∙ ap (λ b. list_all p fs && b) (and_true (p f))
   where
     and_true : (b : Bool) → b && true ≡ b
     and_true true = refl
     and_true false = refl
-every_more p f (g ∷ fs) = ap (λ b. p g && b) (every_more p f fs) ∙ and_assoc (p g) (every p fs) (p f)
 
-every_not : (p : Frame → Bool) (f : Frame) (fs : List Frame) → p f ≡ false → every p (fs ++ f ∷ []) ≡ false
-every_not p f fs e = every_more p f fs ∙ ap (λ b. every p fs && b) e ∙ and_right (every p fs) false refl
+all_not : (p : Frame → Bool) (f : Frame) (fs : List Frame) → p f ≡ false → list_all p (fs ++ f ∷ []) ≡ false
+all_not p f fs e = all_more p f fs ∙ ap (λ b. list_all p fs && b) e ∙ and_right (list_all p fs) false refl
 
 over : {b : Bool} → b ≡ true → not b ≡ true → ⊥
 over {b} e n = false≢true (sym (ap not e) ∙ n)
-
--- nothing stands behind the end frame
-none_behind : (before : List Frame) (n : ℕ) (tail : List Frame) → InTurn Book (before ++ End n ∷ []) tail → tail ≡ []
-none_behind before n [] t = refl
-none_behind before n (Rule row ∷ tail) t = absurd (false≢true (sym (every_not is_rule (End n) before refl) ∙ (placed Book (before ++ End n ∷ []) (Rule row) t.0).0))
-none_behind before n (RankStep ∷ tail) t = absurd (over (end_ended before n) (and_parts _ _ (placed Book (before ++ End n ∷ []) RankStep t.0).0).0)
-none_behind before n (Wish body ∷ tail) t = absurd (over (end_ended before n) (placed Book (before ++ End n ∷ []) (Wish body) t.0).0)
-none_behind before n (Alternative level condition ∷ tail) t = absurd (false≢true (sym (last_more false of_wish (End n) before) ∙ (placed Book (before ++ End n ∷ []) (Alternative level condition) t.0).0))
-none_behind before n (End m ∷ tail) t = absurd (over (end_ended before n) (and_parts _ _ (placed Book (before ++ End n ∷ []) (End m) t.0).0).0)
-none_behind before n (Fit set ∷ tail) t = absurd (false≢true (placed Book (before ++ End n ∷ []) (Fit set) t.0).0)
 
 -- alternatives belong to the last wish before them, or to a later one
 abbrev Late : ℕ → List AlternativeRow → Type 0
@@ -87,7 +60,7 @@ step_in r m w ws rows h =
     let more : suc (w.rank - (r + 1)) ≡ w.rank - r = omega arith in
     let same : r + 1 + (w.rank - (r + 1)) ≡ r + (w.rank - r) = omega arith in
     let after : ℕ → List Frame = λ k. Wish w.body ∷ (map alternative_frame (of_last (m + 1) rows) ++ wish_frames k (m + 1) ws (past_last (m + 1) rows)) in
-    ap (λ k. RankStep ∷ (steps (w.rank - (r + 1)) ++ after k)) same ∙ ap (λ k. steps k ++ after (r + (w.rank - r))) more
+    ap (λ k. RankStep ∷ (replicate (w.rank - (r + 1)) RankStep ++ after k)) same ∙ ap (λ k. replicate k RankStep ++ after (r + (w.rank - r))) more
 
 -- a wish of a rank that is reached
 pub wish_in_lem : (r m : ℕ) (w : WishRow) (ws : List WishRow) (rows : List AlternativeRow) → w.rank ≤ r → Wish w.body ∷ shape r (m + 1) ws rows ≡ wish_frames r m (w ∷ ws) rows
@@ -95,7 +68,7 @@ wish_in_lem r m w ws rows e =
     let none : 0 ≡ w.rank - r = omega arith in
     let same : r ≡ r + (w.rank - r) = omega arith in
     let after : ℕ → List Frame = λ k. Wish w.body ∷ (map alternative_frame (of_last (m + 1) rows) ++ wish_frames k (m + 1) ws (past_last (m + 1) rows)) in
-    ap after same ∙ ap (λ k. steps k ++ after (r + (w.rank - r))) none
+    ap after same ∙ ap (λ k. replicate k RankStep ++ after (r + (w.rank - r))) none
 
 -- an alternative of the last wish
 pub alternative_in_lem : (r m : ℕ) (ws : List WishRow) (a : AlternativeRow) (rows : List AlternativeRow) → a.wish + 1 ≡ m → alternative_frame a ∷ shape r m ws rows ≡ shape r m ws (a ∷ rows)
@@ -108,21 +81,6 @@ grow : (f : Frame) (before xs ys tail : List Frame) → tail ≡ xs ++ End (leng
 grow f before xs ys tail e p =
     let long = length-append before (f ∷ []) in
     ap (λ t. f ∷ t) e ∙ ap (λ k. f ∷ (xs ++ End k ∷ [])) (omega arith) ∙ ap (λ zs. zs ++ End (length before + length zs) ∷ []) p
-
-step_no_wish : (f : Frame) → is_step f ≡ true → of_wish f ≡ false
-step_no_wish (Rule row) e = refl
-step_no_wish RankStep e = refl
-step_no_wish (Wish body) e = absurd (false≢true e)
-step_no_wish (Alternative level condition) e = absurd (false≢true e)
-step_no_wish (End n) e = refl
-step_no_wish (Fit set) e = refl
-
-on_step_or : (a b : Bool) (fs : List Frame) → (a ≡ true → b ≡ false) → last_or a is_step fs ≡ true → last_or b of_wish fs ≡ false
-on_step_or a b [] h e = h e
-on_step_or a b (f ∷ fs) h e = on_step_or (is_step f) (of_wish f) fs (step_no_wish f) e
-
-on_step : (fs : List Frame) → last is_step fs ≡ true → last of_wish fs ≡ false
-on_step fs e = on_step_or false false fs (λ x. refl) e
 
 head_rule : List Frame → Bool
 head_rule [] = false
@@ -138,14 +96,14 @@ alternative_rows s n tail = rows_from alternative_in s n tail
 record Wishes (before tail : List Frame) (s n r m : ℕ) : Type 0 where
   ruleless : rows_from rule_in s n tail ≡ []
   shaped : tail ≡ shape r m (wish_rows s n tail) (alternative_rows s n tail) ++ End (length before + length (shape r m (wish_rows s n tail) (alternative_rows s n tail))) ∷ []
-  ahead : last is_step before ≡ true → (w : WishRow) × (ws : List WishRow) × (wish_rows s n tail ≡ w ∷ ws) × (r ≤ w.rank)
-  apart : last of_wish before ≡ false → (of_last m (alternative_rows s n tail) ≡ []) × (past_last m (alternative_rows s n tail) ≡ alternative_rows s n tail)
+  ahead : is_last is_step before ≡ true → (w : WishRow) × (ws : List WishRow) × (wish_rows s n tail ≡ w ∷ ws) × (r ≤ w.rank)
+  apart : is_last of_wish before ≡ false → (of_last m (alternative_rows s n tail) ≡ []) × (past_last m (alternative_rows s n tail) ≡ alternative_rows s n tail)
 
 module _ (before : List Frame) (s n r m : ℕ) (rank : r ≡ s + 1) (number : m ≡ n) where
   after_step : (tail : List Frame) → Wishes (before ++ RankStep ∷ []) tail (s + 1) (n + 0) (r + 1) m → Wishes before (RankStep ∷ tail) s n r m
   after_step tail ih =
-      let (w, ws, is, high) = ih.ahead (last_more false is_step RankStep before) in
-      let none = ih.apart (last_more false of_wish RankStep before) in
+      let (w, ws, is, high) = ih.ahead (is_last_more is_step RankStep before) in
+      let none = ih.apart (is_last_more of_wish RankStep before) in
       let rows = alternative_rows (s + 1) (n + 0) tail in
       let all = wish_rows (s + 1) (n + 0) tail in
       let same : RankStep ∷ shape (r + 1) m all rows ≡ shape r m all rows =
@@ -170,7 +128,7 @@ module _ (before : List Frame) (s n r m : ℕ) (rank : r ≡ s + 1) (number : m 
         apart = λ e. none;
       }
 
-  after_alternative : (level : ℕ) (condition : Condition) (tail : List Frame) → 1 ≤ n → last of_wish before ≡ true → Wishes (before ++ Alternative level condition ∷ []) tail (s + 0) (n + 0) r m → Wishes before (Alternative level condition ∷ tail) s n r m
+  after_alternative : (level : ℕ) (condition : Condition) (tail : List Frame) → 1 ≤ n → is_last of_wish before ≡ true → Wishes (before ++ Alternative level condition ∷ []) tail (s + 0) (n + 0) r m → Wishes before (Alternative level condition ∷ tail) s n r m
   after_alternative level condition tail some on ih =
       let a : AlternativeRow = record { wish = n - 1; level = level; condition = condition } in
       record {
@@ -180,7 +138,7 @@ module _ (before : List Frame) (s n r m : ℕ) (rank : r ≡ s + 1) (number : m 
         apart = λ e. absurd (false≢true (sym e ∙ on));
       }
 
-  at_end : (k : ℕ) → k ≡ length before → not (last is_step before) ≡ true → Wishes before (End k ∷ []) s n r m
+  at_end : (k : ℕ) → k ≡ length before → not (is_last is_step before) ≡ true → Wishes before (End k ∷ []) s n r m
   at_end k e off =
       record {
         ruleless = refl;
@@ -190,29 +148,29 @@ module _ (before : List Frame) (s n r m : ℕ) (rank : r ≡ s + 1) (number : m 
       }
 
 -- behind its rules
-wishes_end : (tail before : List Frame) (s n r m : ℕ) → r ≡ s + 1 → m ≡ n → (last of_wish before ≡ true → 1 ≤ n) → (head_rule tail ≡ true → every is_rule before ≡ false)
+wishes_end : (tail before : List Frame) (s n r m : ℕ) → r ≡ s + 1 → m ≡ n → (is_last of_wish before ≡ true → 1 ≤ n) → (head_rule tail ≡ true → list_all is_rule before ≡ false)
     → ended before ≡ false → InTurn Book before tail → ended (before ++ tail) ≡ true → Wishes before tail s n r m
 unfolding head_rule
 wishes_end [] before s n r m rank number on no_rule going t done = absurd (false≢true (sym going ∙ ap ended (sym (append-nil before)) ∙ done))
 wishes_end (Rule row ∷ tail) before s n r m rank number on no_rule going t done = absurd (false≢true (sym (no_rule refl) ∙ (placed Book before (Rule row) t.0).0))
 wishes_end (RankStep ∷ tail) before s n r m rank number on no_rule going t done =
     after_step before s n r m rank number tail
-    (wishes_end tail (before ++ RankStep ∷ []) (s + 1) (n + 0) (r + 1) m (omega arith) (omega arith) (λ e. absurd (false≢true (sym (last_more false of_wish RankStep before) ∙ e))) (λ e. every_not is_rule RankStep before refl)
+    (wishes_end tail (before ++ RankStep ∷ []) (s + 1) (n + 0) (r + 1) m (omega arith) (omega arith) (λ e. absurd (false≢true (sym (is_last_more of_wish RankStep before) ∙ e))) (λ e. all_not is_rule RankStep before refl)
     (ended_still before RankStep going refl) t.1 (ap ended (append_assoc before (RankStep ∷ []) tail) ∙ done))
 wishes_end (Wish body ∷ tail) before s n r m rank number on no_rule going t done =
     after_wish before s n r m rank number body tail
-    (wishes_end tail (before ++ Wish body ∷ []) (s + 0) (n + 1) r (m + 1) (omega arith) (omega arith) (λ e. omega arith) (λ e. every_not is_rule (Wish body) before refl)
+    (wishes_end tail (before ++ Wish body ∷ []) (s + 0) (n + 1) r (m + 1) (omega arith) (omega arith) (λ e. omega arith) (λ e. all_not is_rule (Wish body) before refl)
     (ended_still before (Wish body) going refl) t.1 (ap ended (append_assoc before (Wish body ∷ []) tail) ∙ done))
 wishes_end (Alternative level condition ∷ tail) before s n r m rank number on no_rule going t done =
     let last_wish = (placed Book before (Alternative level condition) t.0).0 in
     let some = on last_wish in
     after_alternative before s n r m rank number level condition tail some last_wish
-    (wishes_end tail (before ++ Alternative level condition ∷ []) (s + 0) (n + 0) r m (omega arith) (omega arith) (λ e. omega arith) (λ e. every_not is_rule (Alternative level condition) before refl)
+    (wishes_end tail (before ++ Alternative level condition ∷ []) (s + 0) (n + 0) r m (omega arith) (omega arith) (λ e. omega arith) (λ e. all_not is_rule (Alternative level condition) before refl)
     (ended_still before (Alternative level condition) going refl) t.1 (ap ended (append_assoc before (Alternative level condition ∷ []) tail) ∙ done))
 wishes_end (End k ∷ tail) before s n r m rank number on no_rule going t done =
     let p = placed Book before (End k) t.0 in
     let P : List Frame → Type 0 = λ x. Wishes before (End k ∷ x) s n r m in
-    subst P (sym (none_behind before k tail t.1)) (at_end before s n r m rank number k (eqb-true k (length before) p.1) (and_parts _ _ p.0).1)
+    subst P (sym (none_behind Book before k tail t.1)) (at_end before s n r m rank number k (eqb-true k (length before) p.1) (and_parts _ _ p.0).1)
 wishes_end (Fit set ∷ tail) before s n r m rank number on no_rule going t done = absurd (false≢true (placed Book before (Fit set) t.0).0)
 
 -- with its rules
@@ -222,40 +180,22 @@ book_shape tail = map Rule (rows_from rule_in 0 0 tail) ++ wish_frames 1 0 (wish
 abbrev Whole : List Frame → List Frame → Type 0
 Whole before tail = tail ≡ book_shape tail ++ End (length before + length (book_shape tail)) ∷ []
 
-never_wish_or : (a : Bool) (fs : List Frame) → a ≡ false → every is_rule fs ≡ true → last_or a of_wish fs ≡ false
-never_wish_or a [] e h = e
-never_wish_or a (Rule row ∷ fs) e h = never_wish_or false fs refl h
-never_wish_or a (RankStep ∷ fs) e h = absurd (false≢true h)
-never_wish_or a (Wish body ∷ fs) e h = absurd (false≢true h)
-never_wish_or a (Alternative level condition ∷ fs) e h = absurd (false≢true h)
-never_wish_or a (End k ∷ fs) e h = absurd (false≢true h)
-never_wish_or a (Fit set ∷ fs) e h = absurd (false≢true h)
-
-never_ended : (fs : List Frame) → every is_rule fs ≡ true → ended fs ≡ false
-never_ended [] h = refl
-never_ended (Rule row ∷ fs) h = never_ended fs h
-never_ended (RankStep ∷ fs) h = absurd (false≢true h)
-never_ended (Wish body ∷ fs) h = absurd (false≢true h)
-never_ended (Alternative level condition ∷ fs) h = absurd (false≢true h)
-never_ended (End k ∷ fs) h = absurd (false≢true h)
-never_ended (Fit set ∷ fs) h = absurd (false≢true h)
-
 -- where the rules are over
-rules_over : (tail before : List Frame) → head_rule tail ≡ false → every is_rule before ≡ true → InTurn Book before tail → ended (before ++ tail) ≡ true → Whole before tail
+rules_over : (tail before : List Frame) → head_rule tail ≡ false → list_all is_rule before ≡ true → InTurn Book before tail → ended (before ++ tail) ≡ true → Whole before tail
 rules_over tail before h rules t done =
-    let off = never_wish_or false before refl rules in
+    let off = never_wish before rules in
     let w = wishes_end tail before 0 0 1 0 refl refl (λ e. absurd (false≢true (sym off ∙ e))) (λ e. absurd (false≢true (sym h ∙ e))) (never_ended before rules) t done in
     let rows = alternative_rows 0 0 tail in
     let all = wish_rows 0 0 tail in
     let same : shape 1 0 all rows ≡ book_shape tail = shape_none 1 0 all rows (w.apart off) ∙ ap (λ x. map Rule x ++ wish_frames 1 0 all rows) (sym w.ruleless) in
     w.shaped ∙ ap (λ x. x ++ End (length before + length x) ∷ []) same
 
-pub rules_end : (tail before : List Frame) → every is_rule before ≡ true → InTurn Book before tail → ended (before ++ tail) ≡ true → Whole before tail
+pub rules_end : (tail before : List Frame) → list_all is_rule before ≡ true → InTurn Book before tail → ended (before ++ tail) ≡ true → Whole before tail
 unfolding head_rule
 rules_end [] before rules t done = rules_over [] before refl rules t done
 rules_end (Rule row ∷ tail) before rules t done =
     grow (Rule row) before (book_shape tail) (book_shape (Rule row ∷ tail)) tail
-    (rules_end tail (before ++ Rule row ∷ []) (every_more is_rule (Rule row) before ∙ ap (λ b. b && true) rules) t.1 (ap ended (append_assoc before (Rule row ∷ []) tail) ∙ done)) refl
+    (rules_end tail (before ++ Rule row ∷ []) (all_more is_rule (Rule row) before ∙ ap (λ b. b && true) rules) t.1 (ap ended (append_assoc before (Rule row ∷ []) tail) ∙ done)) refl
 rules_end (RankStep ∷ tail) before rules t done = rules_over (RankStep ∷ tail) before refl rules t done
 rules_end (Wish body ∷ tail) before rules t done = rules_over (Wish body ∷ tail) before refl rules t done
 rules_end (Alternative level condition ∷ tail) before rules t done = rules_over (Alternative level condition ∷ tail) before refl rules t done

@@ -1,8 +1,8 @@
 -- The frames of a catalogue's rows, and the rows of its frames.
 use Rattle.std.proofs.Common.{◌≡◌, ℕ, ◌+◌, ◌≤◌, true, false, List, [], ◌∷◌, ◌++◌, length, sym, refl, ap, ◌∙◌, arith}
-use Rattle.std.specs.List.{AllByRecursion as All}
+use Rattle.std.specs.List.{All, AllByRecursion, list_all}
 use Rattle.std.proofs.lemmas.List.{append_assoc, append-nil, length-append, length-map}
-use Rattle.std.proofs.lemmas.Bool.{and_from, and_parts, eqb-true, eq-eqb, le-leb, leb-true, lt-ltb, ltb-true, not-true, not_from_false, both_ways, false≢true}
+use Rattle.std.proofs.lemmas.Bool.{and_from, and_parts, eqb-true, eq-eqb, le-leb, leb-true, lt-ltb, ltb-true, not_from_false, false≢true}
 use Rattle.literals.specs.declared.literal_set.LiteralSet.{LiteralSet}
 use Rattle.tables.specs.Rows.{makes_fit}
 use Rattle.frames.specs.declared.frame.Frame.{Frame}
@@ -12,24 +12,14 @@ use Rattle.texts.specs.declared.seen.TextKind.TheVariants.{Catalogue}
 use Rattle.texts.specs.Places.{ended}
 use Rattle.texts.specs.Reading.{limit}
 use Rattle.texts.specs.Rows.{fit_in, rows_from, rows_in}
-use Rattle.texts.specs.Writing.{text_of, ending, fit_frames, each, holdable, writable_catalogue}
-use Rattle.texts.specs.Turns.{AllGood, InTurn}
-use Rattle.texts.proofs.BookTurns.{placed}
-use Rattle.texts.proofs.SummaryLaws.{end_ended, ended_still}
+use Rattle.texts.specs.Writing.{text_of, ending, fit_frames, holdable, writable_catalogue}
+use Rattle.texts.specs.Turns.{InTurn}
+use Rattle.texts.proofs.PlaceLaws.{placed, ended_still, none_behind}
+use Rattle.texts.proofs.TurnLaws.{AllGood}
 use Rattle.texts.proofs.TextFrames.{admits, good_last, all_passed, passed_all}
 
 abbrev GoodFit : LiteralSet → Type 0
 GoodFit s = SetFits s × (makes_fit s ≡ true)
-
--- nothing stands behind the end frame
-none_behind : (before : List Frame) (n : ℕ) (tail : List Frame) → InTurn Catalogue (before ++ End n ∷ []) tail → tail ≡ []
-none_behind before n [] t = refl
-none_behind before n (Rule row ∷ tail) t = absurd (false≢true (placed Catalogue (before ++ End n ∷ []) (Rule row) t.0).0)
-none_behind before n (RankStep ∷ tail) t = absurd (false≢true (placed Catalogue (before ++ End n ∷ []) RankStep t.0).0)
-none_behind before n (Wish body ∷ tail) t = absurd (false≢true (placed Catalogue (before ++ End n ∷ []) (Wish body) t.0).0)
-none_behind before n (Alternative level condition ∷ tail) t = absurd (false≢true (placed Catalogue (before ++ End n ∷ []) (Alternative level condition) t.0).0)
-none_behind before n (End m ∷ tail) t = absurd (both_ways _ (not-true _ (placed Catalogue (before ++ End n ∷ []) (End m) t.0).0) (end_ended before n))
-none_behind before n (Fit set ∷ tail) t = absurd (both_ways _ (not-true _ (placed Catalogue (before ++ End n ∷ []) (Fit set) t.0).0) (end_ended before n))
 
 -- frames in turn are fits, and then the end
 fits_then_end : (tail before : List Frame) → ended before ≡ false → InTurn Catalogue before tail → ended (before ++ tail) ≡ true
@@ -41,7 +31,7 @@ fits_then_end (Wish body ∷ tail) before going t done = absurd (false≢true (p
 fits_then_end (Alternative level condition ∷ tail) before going t done = absurd (false≢true (placed Catalogue before (Alternative level condition) t.0).0)
 fits_then_end (End k ∷ tail) before going t done =
     let p = placed Catalogue before (End k) t.0 in
-    ([], ap (λ x. End k ∷ x) (none_behind before k tail t.1) ∙ ap (λ j. End j ∷ []) (eqb-true k (length before) p.1 ∙ omega arith))
+    ([], ap (λ x. End k ∷ x) (none_behind Catalogue before k tail t.1) ∙ ap (λ j. End j ∷ []) (eqb-true k (length before) p.1 ∙ omega arith))
 fits_then_end (Fit set ∷ tail) before going t done =
     let (rows, is) = fits_then_end tail (before ++ Fit set ∷ []) (ended_still before (Fit set) going refl) t.1 (ap ended (append_assoc before (Fit set ∷ []) tail) ∙ done) in
     let long = length-append before (Fit set ∷ []) in
@@ -53,11 +43,11 @@ fits_turn (set ∷ rows) before k going e =
     let long = length-append before (Fit set ∷ []) in
     (admits Catalogue before (Fit set) (not_from_false _ going) refl, fits_turn rows (before ++ Fit set ∷ []) k (ended_still before (Fit set) going refl) (omega arith))
 
-fits_good : (rows : List LiteralSet) (tail : List Frame) → All GoodFit rows → AllGood tail → AllGood (fit_frames rows ++ tail)
+fits_good : (rows : List LiteralSet) (tail : List Frame) → AllByRecursion GoodFit rows → AllGood tail → AllGood (fit_frames rows ++ tail)
 fits_good [] tail h g = g
 fits_good (set ∷ rows) tail h g = (h.0, fits_good rows tail h.1 g)
 
-good_fits : (rows : List LiteralSet) (tail : List Frame) → AllGood (fit_frames rows ++ tail) → All GoodFit rows
+good_fits : (rows : List LiteralSet) (tail : List Frame) → AllGood (fit_frames rows ++ tail) → AllByRecursion GoodFit rows
 good_fits [] tail g = tt
 good_fits (set ∷ rows) tail g = (g.0, good_fits rows tail g.1)
 
@@ -84,7 +74,7 @@ catalogue_turn rows = let long = length-map rows Fit in fits_turn rows [] (lengt
 -- and each is good
 pub catalogue_good : (rows : List LiteralSet) → All SetFits rows → writable_catalogue rows ≡ true → AllGood (ending (fit_frames rows)) × (length (text_of (ending (fit_frames rows))) ≤ limit)
 catalogue_good rows fit w =
-    let (made, held) = and_parts (each makes_fit rows) (holdable (fit_frames rows)) w in
+    let (made, held) = and_parts (list_all makes_fit rows) (holdable (fit_frames rows)) w in
     let (short, few) = and_parts _ _ held in
     let few' = ltb-true (length (fit_frames rows)) 65536 few in
     (fits_good rows (End (length (fit_frames rows)) ∷ []) (all_passed SetFits makes_fit rows fit made) ((few', refl), tt), leb-true _ _ short)

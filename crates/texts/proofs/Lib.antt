@@ -1,3 +1,4 @@
+pub mod PlaceLaws
 pub mod SummaryLaws
 pub mod LineLaws
 pub mod TurnLaws
@@ -8,9 +9,9 @@ pub mod ReadLaws
 pub mod SourceLaws
 pub mod TextFrames
 pub mod CatalogueTables
-pub mod BookTables
+pub mod BookWritten
 pub mod BookRows
 pub mod RoundTrip
 pub mod WriteLaws
-pub mod CheckLaws
 pub mod RefusalLaws
+pub mod CheckLaws

@@ -17,7 +17,7 @@ use Rattle.texts.specs.Places.{ended}
 use Rattle.texts.specs.declared.seen.TextKind.{TextKind}
 use Rattle.texts.specs.Lines.{Line, longer, lines, in_line, frame_in}
 use Rattle.texts.specs.Reading.{refused, and_then, at_line, as_fault, admitted, read_from, limit, frames_in}
-use Rattle.texts.specs.Summary.{kept, standing, stepped}
+use Rattle.texts.specs.Summary.{stepped}
 
 abbrev whole : List ℕ → Line
 whole l = record { bytes = l; ended = true }
@@ -110,15 +110,18 @@ module _ (kind : TextKind) (before : List Frame) (t : List ℕ) where
   pub read_end : length t ≡ 0 → read_from kind before (lines t) ≡ cond (ended before) (Ok before) (refused Place line_number)
   read_end h = ap (λ u. read_from kind before (lines u)) (nil_from_length t h)
 
-  kept_ok : (p q : Frame × List ℕ) (a : Result (Unit {0}) Fault) → kept p a ≡ Ok q → (p ≡ q) × (a ≡ Ok tt)
+  abbrev standing : Result (Frame × List ℕ) FrameFault → Result (Frame × List ℕ) Fault
+  standing s = and_then (as_fault s) (λ p. and_then (admitted kind before p.0) (λ _. Ok p))
+
+  kept_ok : (p q : Frame × List ℕ) (a : Result (Unit {0}) Fault) → and_then a (λ _. Ok p) ≡ Ok q → (p ≡ q) × (a ≡ Ok tt)
   kept_ok p q (Ok x) e = (ok_same e, refl)
   kept_ok p q (Err x) e = absurd (ok_err (sym e))
 
-  kept_err : (p : Frame × List ℕ) (a : Result (Unit {0}) Fault) (x : Fault) → kept p a ≡ Err x → a ≡ Err x
+  kept_err : (p : Frame × List ℕ) (a : Result (Unit {0}) Fault) (x : Fault) → and_then a (λ _. Ok p) ≡ Err x → a ≡ Err x
   kept_err p (Ok y) x e = absurd (ok_err e)
   kept_err p (Err y) x e = ap Err (err_same e)
 
-  step_parts : (s : Result (Frame × List ℕ) FrameFault) (f : Frame) (r : List ℕ) → standing kind before (as_fault s) ≡ Ok (f, r) → (s ≡ Ok (f, r)) × (admitted kind before f ≡ Ok tt)
+  step_parts : (s : Result (Frame × List ℕ) FrameFault) (f : Frame) (r : List ℕ) → standing s ≡ Ok (f, r) → (s ≡ Ok (f, r)) × (admitted kind before f ≡ Ok tt)
   step_parts (Err x) f r e = absurd (ok_err (sym e))
   step_parts (Ok p) f r e = let k = kept_ok p (f, r) (admitted kind before p.0) e in (ap Ok k.0, ap (λ q. admitted kind before q.0) (sym k.0) ∙ k.1)
 
@@ -129,7 +132,7 @@ module _ (kind : TextKind) (before : List Frame) (t : List ℕ) where
   pub step_on : (f : Frame) (r : List ℕ) → stepped kind before t ≡ Ok (f, r) → read_from kind before (lines t) ≡ read_from kind (before ++ f ∷ []) (lines r)
   step_on f r e = let p = step_read f r e in read_more f r p.0 p.1
 
-  step_not : (s : Result (Frame × List ℕ) FrameFault) (x : Fault) → read_frame t ≡ s → 0 < length t → standing kind before (as_fault s) ≡ Err x → read_from kind before (lines t) ≡ refused x line_number
+  step_not : (s : Result (Frame × List ℕ) FrameFault) (x : Fault) → read_frame t ≡ s → 0 < length t → standing s ≡ Err x → read_from kind before (lines t) ≡ refused x line_number
   step_not (Err y) x s h e = read_fault y h s ∙ ap (λ z. refused z line_number) (err_same e)
   step_not (Ok p) x s h e = read_misplaced p.0 p.1 x s (kept_err p (admitted kind before p.0) x e)
 

@@ -1,5 +1,7 @@
 -- A refusal is what the line that it names shows.
-use Rattle.std.proofs.Common.{◌≡◌, ℕ, ◌+◌, ◌<◌, ◌≤◌, Bool, true, false, cond, ltb, List, [], ◌++◌, length, Ok, Err, Result, sym, refl, ap, ◌∙◌, subst, inl, inr, arith}
+use Rattle.std.proofs.Common.{◌≡◌, ℕ, ◌+◌, ◌<◌, ◌≤◌, Bool, true, false, cond, ltb, List, [], ◌∷◌, ◌++◌, length, Ok, Err, Result, sym, refl, ap, ◌∙◌, subst, inl, inr, arith}
+use Rattle.std.specs.List.{All}
+use Rattle.std.proofs.lemmas.List.Elements.{All-from_recursion, All-head, All-tail}
 use Rattle.std.proofs.lemmas.Bool.{lt-ltb, le-ltb, ltb-true, cond-true, cond-false}
 use Rattle.frames.specs.declared.frame.Frame.{Frame}
 use Rattle.frames.specs.declared.frame.FrameFault.{FrameFault}
@@ -18,7 +20,7 @@ use Rattle.texts.specs.Reading.{limit, number_of, refused, counts, read_from, fr
 use Rattle.texts.specs.Refusals.{Shows, digits, check, sort, field, missing, misplaced, miscounted, RefusedAt, RefusalsStand}
 use Rattle.frames.proofs.DigitLaws.{ok_err, err_same}
 use Rattle.texts.proofs.LineLaws.{read_fault, read_misplaced, read_end}
-use Rattle.texts.proofs.TurnLaws.{Stops, refuses, read_through}
+use Rattle.texts.proofs.TurnLaws.{AllGood, Stops, refuses, read_through}
 
 module _ (kind : TextKind) (before : List Frame) (rest : List ℕ) where
   shows_fault : (y : FrameFault) → 0 < length rest → read_frame rest ≡ Err y → Shows kind before rest (number_of (fault.Frame y))
@@ -58,6 +60,10 @@ module _ (kind : TextKind) (before : List Frame) (rest : List ℕ) where
   stopped n (miscounted f later e g within wrong) =
       (Count, read_misplaced kind before rest f later Count (by_frame f later e g) (cond-true _ _ _ within ∙ cond-false _ _ _ wrong), refl)
 
+by_recursion : (fs : List Frame) → All Good fs → AllGood fs
+by_recursion [] h = tt
+by_recursion (f ∷ fs) h = (All-head Good f fs h, by_recursion fs (All-tail Good f fs h))
+
 module _ (kind : TextKind) (text : List ℕ) where
   judged : length text ≤ limit → frames_in kind text ≡ read_from kind [] (lines text)
   judged h = cond-false _ _ _ (le-ltb limit (length text) h)
@@ -65,12 +71,12 @@ module _ (kind : TextKind) (text : List ℕ) where
   refused_at : length text ≤ limit → (n l : ℕ) → (x : Fault) × (frames_in kind text ≡ refused x l) × (number_of x ≡ n) → RefusedAt kind text n l
   refused_at h n l (x, e, is) =
       let (tail, rest, run, line, stop) = refuses kind [] text (record { fault = x; line = l }) (sym (judged h) ∙ e) in
-      (tail, rest, run.0, run.1, run.2, line, subst (λ (k : ℕ). Shows kind tail rest k) is (shows kind tail rest x stop))
+      (tail, rest, run.0, All-from_recursion Good tail run.1, run.2, line, subst (λ (k : ℕ). Shows kind tail rest k) is (shows kind tail rest x stop))
 
   at_refused : length text ≤ limit → (n l : ℕ) → RefusedAt kind text n l → (x : Fault) × (frames_in kind text ≡ refused x l) × (number_of x ≡ n)
   at_refused h n l (before, rest, is, good, turn, line, show) =
       let (x, e, number) = stopped kind before rest n show in
-      (x, judged h ∙ ap (λ t. read_from kind [] (lines t)) is ∙ read_through kind [] before rest good turn ∙ e ∙ ap (refused x) (sym line), number)
+      (x, judged h ∙ ap (λ t. read_from kind [] (lines t)) is ∙ read_through kind [] before rest (by_recursion before good) turn ∙ e ∙ ap (refused x) (sym line), number)
 
   above : (d : Bool) → ltb limit (length text) ≡ d → cond d (refused TooLong 0) (read_from kind [] (lines text)) ≡ refused TooLong 0 → limit < length text
   above true d e = ltb-true limit (length text) d

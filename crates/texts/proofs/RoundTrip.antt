@@ -1,6 +1,6 @@
 -- Texts and tables answer to each other.
 use Rattle.std.proofs.Common.{◌≡◌, ℕ, ◌≤◌, true, List, length, Ok, sym, ap, ◌∙◌, subst}
-use Rattle.std.specs.List.{AllByRecursion as All}
+use Rattle.std.specs.List.{All}
 use Rattle.literals.specs.declared.literal_set.LiteralSet.{LiteralSet}
 use Rattle.frames.specs.declared.frame.Frame.{Frame}
 use Rattle.frames.specs.Frames.{SetFits}
@@ -10,11 +10,11 @@ use Rattle.texts.specs.Rows.{fit_in, rows_in, Tables, tables_of, catalogue, book
 use Rattle.texts.specs.Writing.{text_of, ending, fit_frames, book_frames, catalogue_text, book_text, writable_catalogue, writable_book}
 use Rattle.texts.specs.Meaning.{TablesFit, CatalogueReading, CatalogueWriting, BookReading, BookWriting}
 use Rattle.texts.proofs.BookRows.{book_writable}
-use Rattle.texts.proofs.BookTables.{book_written}
+use Rattle.texts.proofs.BookWritten.{book_written}
 use Rattle.texts.proofs.BookTurns.{book_frames_lem}
 use Rattle.texts.proofs.CatalogueTables.{catalogue_rows, catalogue_frames, catalogue_turn, catalogue_good, catalogue_writable}
 use Rattle.texts.proofs.RefusalLaws.{refusals_stand}
-use Rattle.texts.proofs.SummaryLaws.{end_ended}
+use Rattle.texts.proofs.PlaceLaws.{end_ended}
 use Rattle.texts.proofs.TextFrames.{Framed, framed, frames_back, made_from}
 
 -- the frames of an accepted catalogue

@@ -2,33 +2,37 @@
 use Rattle.std.proofs.Common.{◌≡◌, ℕ, ◌+◌, ◌≤◌, cond, List, [], ◌∷◌, ◌++◌, length, take, drop, set, Some, None, Option, sym, refl, ap, ◌∙◌, arith}
 use Rattle.std.proofs.lemmas.List.{append-nil, length-append, length-set, length-take-le, take-append-drop, take_more_set, drop-set-lt, drop-drop}
 use Rattle.frames.specs.declared.frame.Frame.{Frame}
-use Rattle.texts.specs.Places.{is_step, is_wish, count}
+use Rattle.std.specs.List.{count_by}
+use Rattle.texts.specs.Places.{is_step, is_wish}
 use Rattle.tables.specs.Tables.{onto}
 use Rattle.texts.specs.Rows.{rows_from, rows_in, overwritten}
 use Rattle.texts.specs.Summary.{placed_at}
+use Rattle.texts.proofs.SummaryLaws.{count_cons}
 
 onto_append : {R : Type 0} (o : Option R) (xs ys : List R) → onto o (xs ++ ys) ≡ onto o xs ++ ys
 onto_append None xs ys = refl
 onto_append (Some x) xs ys = refl
 
 module _ {R : Type 0} (given : ℕ → ℕ → Frame → Option R) where
-  pub rows_append : (s n : ℕ) (xs ys : List Frame) → rows_from given s n (xs ++ ys) ≡ rows_from given s n xs ++ rows_from given (s + count is_step xs) (n + count is_wish xs) ys
+  pub rows_append : (s n : ℕ) (xs ys : List Frame) → rows_from given s n (xs ++ ys) ≡ rows_from given s n xs ++ rows_from given (s + count_by is_step xs) (n + count_by is_wish xs) ys
   rows_append s n [] ys = ap (λ k. rows_from given k n ys) (omega arith) ∙ ap (λ k. rows_from given (s + 0) k ys) (omega arith)
   rows_append s n (f ∷ xs) ys =
       let s' = s + cond (is_step f) 1 0 in
       let n' = n + cond (is_wish f) 1 0 in
-      ap (onto (given s n f)) (rows_append s' n' xs ys) ∙ onto_append (given s n f) (rows_from given s' n' xs) (rows_from given (s' + count is_step xs) (n' + count is_wish xs) ys)
-      ∙ ap (λ k. onto (given s n f) (rows_from given s' n' xs) ++ rows_from given k (n' + count is_wish xs) ys) (omega arith)
-      ∙ ap (λ k. onto (given s n f) (rows_from given s' n' xs) ++ rows_from given (s + count is_step (f ∷ xs)) k ys) (omega arith)
+      let step = count_cons is_step f xs in
+      let wish = count_cons is_wish f xs in
+      ap (onto (given s n f)) (rows_append s' n' xs ys) ∙ onto_append (given s n f) (rows_from given s' n' xs) (rows_from given (s' + count_by is_step xs) (n' + count_by is_wish xs) ys)
+      ∙ ap (λ k. onto (given s n f) (rows_from given s' n' xs) ++ rows_from given k (n' + count_by is_wish xs) ys) (omega arith)
+      ∙ ap (λ k. onto (given s n f) (rows_from given s' n' xs) ++ rows_from given (s + count_by is_step (f ∷ xs)) k ys) (omega arith)
 
   -- one frame more
-  pub rows_more : (fs : List Frame) (f : Frame) → rows_in given (fs ++ f ∷ []) ≡ rows_in given fs ++ onto (given (count is_step fs) (count is_wish fs) f) []
+  pub rows_more : (fs : List Frame) (f : Frame) → rows_in given (fs ++ f ∷ []) ≡ rows_in given fs ++ onto (given (count_by is_step fs) (count_by is_wish fs) f) []
   rows_more fs f =
-      rows_append 0 0 fs (f ∷ []) ∙ ap (λ k. rows_in given fs ++ onto (given k (0 + count is_wish fs) f) []) (omega arith) ∙ ap (λ k. rows_in given fs ++ onto (given (count is_step fs) k f) []) (omega arith)
+      rows_append 0 0 fs (f ∷ []) ∙ ap (λ k. rows_in given fs ++ onto (given k (0 + count_by is_wish fs) f) []) (omega arith) ∙ ap (λ k. rows_in given fs ++ onto (given (count_by is_step fs) k f) []) (omega arith)
 
   -- no fewer rows than those of the front
   pub rows_front : (xs ys : List Frame) → length (rows_in given xs) ≤ length (rows_in given (xs ++ ys))
-  rows_front xs ys = let e = ap length (rows_append 0 0 xs ys) in let l = length-append (rows_in given xs) (rows_from given (0 + count is_step xs) (0 + count is_wish xs) ys) in omega arith
+  rows_front xs ys = let e = ap length (rows_append 0 0 xs ys) in let l = length-append (rows_in given xs) (rows_from given (0 + count_by is_step xs) (0 + count_by is_wish xs) ys) in omega arith
 
 -- a table whose first rows are known, with one row more
 module _ {R : Type 0} (table table₀ rows : List R) (n : ℕ) (front : take n table ≡ rows) (back : drop n table ≡ drop n table₀) where

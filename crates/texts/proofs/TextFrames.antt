@@ -1,7 +1,8 @@
 -- An accepted text is that of good frames in turn, and the text of such frames is accepted.
 use Rattle.std.proofs.Common.{◌≡◌, ℕ, ◌≤◌, Bool, true, false, cond, ltb, List, [], ◌∷◌, ◌++◌, length, Ok, Err, Result, sym, refl, ap, ◌∙◌, subst}
-use Rattle.std.specs.List.{AllByRecursion as All}
+use Rattle.std.specs.List.{All, AllByRecursion, list_all}
 use Rattle.std.proofs.lemmas.List.{append-nil}
+use Rattle.std.proofs.lemmas.List.Elements.{All-nil, All-cons, All-head, All-tail}
 use Rattle.std.proofs.lemmas.Bool.{and_parts, and_from, ltb-false, le-ltb, cond-true, cond-false}
 use Rattle.frames.specs.declared.frame.Frame.{Frame}
 use Rattle.frames.specs.Frames.{Good}
@@ -11,10 +12,10 @@ use Rattle.texts.specs.declared.seen.TextKind.{TextKind}
 use Rattle.texts.specs.Lines.{lines}
 use Rattle.texts.specs.Places.{ended, in_place}
 use Rattle.texts.specs.Reading.{refused, and_then, counts, admitted, read_from, limit, frames_in}
-use Rattle.texts.specs.Writing.{text_of, each}
-use Rattle.texts.specs.Turns.{AllGood, InTurn}
+use Rattle.texts.specs.Writing.{text_of}
+use Rattle.texts.specs.Turns.{InTurn}
 use Rattle.frames.proofs.DigitLaws.{ok_err, ok_same}
-use Rattle.texts.proofs.TurnLaws.{accepts, read_through}
+use Rattle.texts.proofs.TurnLaws.{AllGood, accepts, read_through}
 
 -- a text of these frames that is accepted
 pub record Framed (kind : TextKind) (text : List ℕ) (fs : List Frame) : Type 0 where
@@ -61,10 +62,10 @@ good_last (x ∷ fs) f g = good_last fs f g.1
 
 -- rows of numbers that fit, each of which passes a test
 module _ {A : Type 0} (P : A → Type 0) (p : A → Bool) where
-  pub all_passed : (xs : List A) → All P xs → each p xs ≡ true → All (λ x. P x × (p x ≡ true)) xs
+  pub all_passed : (xs : List A) → All P xs → list_all p xs ≡ true → AllByRecursion (λ x. P x × (p x ≡ true)) xs
   all_passed [] h e = tt
-  all_passed (x ∷ xs) h e = let q = and_parts (p x) (each p xs) e in ((h.0, q.0), all_passed xs h.1 q.1)
+  all_passed (x ∷ xs) h e = let q = and_parts (p x) (list_all p xs) e in ((All-head P x xs h, q.0), all_passed xs (All-tail P x xs h) q.1)
 
-  pub passed_all : (xs : List A) → All (λ x. P x × (p x ≡ true)) xs → All P xs × (each p xs ≡ true)
-  passed_all [] h = (tt, refl)
-  passed_all (x ∷ xs) h = let q = passed_all xs h.1 in ((h.0.0, q.0), and_from (p x) (each p xs) h.0.1 q.1)
+  pub passed_all : (xs : List A) → AllByRecursion (λ x. P x × (p x ≡ true)) xs → All P xs × (list_all p xs ≡ true)
+  passed_all [] h = (All-nil P, refl)
+  passed_all (x ∷ xs) h = let q = passed_all xs h.1 in (All-cons P x xs h.0.0 q.0, and_from (p x) (list_all p xs) h.0.1 q.1)

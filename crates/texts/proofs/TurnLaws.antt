@@ -1,9 +1,10 @@
 -- An accepted text is the text of frames that stand in turn, and a refused one is such a text up to the line that shows the fault.
 use Rattle.std.proofs.Common.{◌≡◌, ℕ, zero, suc, ◌+◌, ◌<◌, Bool, true, false, cond, ◌⊎◌, List, [], ◌∷◌, ◌++◌, length, Ok, Err, Result, sym, refl, ap, ◌∙◌, subst, inl, inr, arith}
+use Rattle.std.specs.List.{AllByRecursion}
 use Rattle.std.proofs.lemmas.List.{append_assoc, append-nil}
 use Rattle.frames.specs.declared.frame.Frame.{Frame}
 use Rattle.frames.specs.declared.frame.FrameFault.{FrameFault}
-use Rattle.frames.specs.Frames.{line_for, read_frame}
+use Rattle.frames.specs.Frames.{line_for, read_frame, Good}
 use Rattle.frames.proofs.LineLaws.{read_exact, read_good, read_back}
 use Rattle.texts.specs.declared.fault.Fault.{Fault}
 use Rattle.texts.specs.declared.fault.Fault.TheVariants as fault
@@ -14,9 +15,13 @@ use Rattle.texts.specs.Lines.{lines}
 use Rattle.texts.specs.Places.{ended}
 use Rattle.texts.specs.Reading.{refused, admitted, read_from}
 use Rattle.texts.specs.Writing.{text_of}
-use Rattle.texts.specs.Turns.{AllGood, InTurn}
+use Rattle.texts.specs.Turns.{InTurn}
 use Rattle.frames.proofs.DigitLaws.{ok_err, ok_same, err_same}
 use Rattle.texts.proofs.LineLaws.{read_more, read_misplaced, read_fault, read_shorter}
+
+-- each frame is one that a line gives
+abbrev pub AllGood : List Frame → Type 0
+AllGood fs = AllByRecursion Good fs
 
 -- a line that shows a fault behind these frames
 abbrev pub Stops : TextKind → List Frame → List ℕ → Fault → Type 0

@@ -1,14 +1,12 @@
 -- Writing the lines of frames, one behind the other.
-use Rattle.std.proofs.Common.{◌≡◌, ℕ, ◌+◌, ◌-◌, ◌<◌, ◌≤◌, true, false, List, [], ◌∷◌, ◌++◌, length, take, drop, Some, Option, sym, refl, ap, ◌∙◌, arith}
+use Rattle.std.proofs.Common.{◌≡◌, ℕ, ◌+◌, ◌-◌, ◌≤◌, List, [], ◌∷◌, ◌++◌, length, take, drop, Some, Option, sym, refl, ap, ◌∙◌, arith}
 use borrow.Rule.Slice.PartMut.{put_mid}
 use Rattle.std.proofs.lemmas.List.{append_assoc, append-nil, length-append, length-drop, drop-drop}
-use Rattle.std.proofs.lemmas.Bool.{and_left, and_right, and_from, lt-leb, le-leb, le-ltb, lt-ltb}
 use Rattle.frames.specs.declared.frame.Frame.{Frame}
 use Rattle.frames.specs.declared.frame.Frame.TheVariants.{End}
 use Rattle.frames.specs.Frames.{line_for, wrote_in, written_in}
 use Rattle.frames.proofs.WriteLaws.{line_count, line_after}
-use Rattle.texts.specs.Reading.{limit}
-use Rattle.texts.specs.Writing.{ending, text_of, holdable}
+use Rattle.texts.specs.Writing.{ending, text_of}
 
 pub text_append : (xs ys : List Frame) → text_of (xs ++ ys) ≡ text_of xs ++ text_of ys
 text_append [] ys = refl
@@ -21,21 +19,8 @@ ending_text fs = text_append fs (End (length fs) ∷ []) ∙ ap (λ t. text_of f
 pub ending_long : (fs : List Frame) → length (text_of (ending fs)) ≡ 9 + length (text_of fs)
 ending_long fs = ap length (ending_text fs) ∙ length-append (text_of fs) (line_for (End (length fs))) ∙ omega arith
 
--- a text that is too long, or has too many frames
-pub too_long : (fs : List Frame) → limit < 9 + length (text_of fs) → holdable fs ≡ false
-too_long fs h = let long = ending_long fs in and_left _ _ (lt-leb (length (text_of (ending fs))) limit (omega arith))
-
-pub too_many : (fs : List Frame) → 65536 ≤ length fs → holdable fs ≡ false
-too_many fs h = and_right _ _ (le-ltb (length fs) 65536 h)
-
-pub can_hold : (fs : List Frame) → 9 + length (text_of fs) ≤ limit → length fs < 65536 → holdable fs ≡ true
-can_hold fs h k = let long = ending_long fs in and_from _ _ (le-leb (length (text_of (ending fs))) limit (omega arith)) (lt-ltb (length fs) 65536 k)
-
 -- a line written into the tail of a buffer, behind what was done
 module _ (out₀ out done : List ℕ) (at : ℕ) (here : length done ≡ at) (so_far : out ≡ done ++ drop at out₀) where
-  pub tail_starts : at ≤ length out
-  tail_starts = let long = ap length so_far ∙ length-append done (drop at out₀) in omega arith
-
   module _ (line : List ℕ) (room : at + length line ≤ length out₀) where
     fits : length line ≤ length (drop at out₀)
     fits = let long = length-drop at out₀ in omega arith
@@ -54,9 +39,6 @@ pub record Written (text out₀ out : List ℕ) (at : ℕ) (fs : List Frame) (do
   pub so_far : out ≡ done ++ drop at out₀
 
 module _ {text out₀ out : List ℕ} {at : ℕ} {fs : List Frame} {done : List ℕ} (w : Written text out₀ out at fs done) (whole : length text ≤ length out₀) where
-  pub write_start : at ≤ length out
-  write_start = tail_starts out₀ out done at w.here w.so_far
-
   module _ {f : Frame} {later : List Frame} (next : fs ≡ f ∷ later) where
     text_here : text ≡ (done ++ line_for f) ++ text_of later
     text_here = w.rest ∙ ap (λ x. done ++ text_of x) next ∙ sym (append_assoc done (line_for f) (text_of later))
@@ -78,19 +60,10 @@ module _ {text out₀ out : List ℕ} {at : ℕ} {fs : List Frame} {done : List 
           so_far = written_behind out₀ out done at w.here w.so_far (line_for f) write_room e ∙ ap (λ n. (done ++ line_for f) ++ drop n out₀) (sym k);
         }
 
-  pub write_done : fs ≡ [] → (at ≡ length text) × (out ≡ text ++ drop (length text) out₀)
-  write_done none =
-      let all : text ≡ done = w.rest ∙ ap (λ x. done ++ text_of x) none ∙ append-nil done in
-      let long : at ≡ length text = sym w.here ∙ ap length (sym all) in
-      (long, w.so_far ∙ ap (λ t. t ++ drop at out₀) (sym all) ∙ ap (λ n. text ++ drop n out₀) long)
-
 -- the end frame's line behind the others
 module _ (fs : List Frame) (out₀ out : List ℕ) (at : ℕ) (here : at ≡ length (text_of fs)) (so_far : out ≡ text_of fs ++ drop (length (text_of fs)) out₀) where
   lines_stand : out ≡ text_of fs ++ drop at out₀
   lines_stand = so_far ∙ ap (λ k. text_of fs ++ drop k out₀) (sym here)
-
-  pub end_start : at ≤ length out
-  end_start = tail_starts out₀ out (text_of fs) at (sym here) lines_stand
 
   pub text_written : (last : List ℕ) (count : ℕ) → count ≡ length fs → length (text_of (ending fs)) ≤ length out₀ → last ≡ written_in (line_for (End count)) (take (length out - at) (drop at out))
       → put_mid at (length out - at) out last ≡ text_of (ending fs) ++ drop (length (text_of (ending fs))) out₀

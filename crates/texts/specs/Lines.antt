@@ -1,5 +1,5 @@
 -- The lines of a text.
-use Rattle.std.specs.Prelude.{ℕ, Bool, true, false, cond, List, [], ◌∷◌, Some, None, Err, Option, Result, ◌==◌}
+use Rattle.std.specs.Prelude.{ℕ, Bool, true, false, if◌then◌else◌, List, [], ◌∷◌, Some, None, Err, Option, Result, ◌==◌}
 use Rattle.frames.specs.declared.frame.Frame.{Frame}
 use Rattle.frames.specs.declared.frame.FrameFault.{FrameFault}
 use Rattle.frames.specs.declared.frame.FrameFault.TheVariants.{Digits}
@@ -8,7 +8,7 @@ use Rattle.frames.specs.declared.frame.DigitFault.TheVariants.{NoLineFeed}
 use Rattle.frames.specs.Digits.{digit_fault, bytes_of}
 use Rattle.frames.specs.Frames.{framed}
 
--- a line's bytes, and whether a line feed ends it (only the last line may lack it)
+-- A line's bytes, and whether a line feed ends it (only the last line may lack it)
 pub record Line : Type 0 where
   pub bytes : List ℕ
   pub ended : Bool
@@ -19,7 +19,8 @@ longer b (line ∷ later) = record { bytes = b ∷ line.bytes; ended = line.ende
 
 abbrev pub lines : List ℕ → List Line
 lines [] = []
-lines (b ∷ text) = cond (b == 10) (record { bytes = []; ended = true } ∷ lines text) (longer b (lines text))
+lines (b ∷ text) =
+    (if b == 10 then record { bytes = []; ended = true } ∷ lines text else longer b (lines text))
 
 -- the frame of a line: its digits are judged first, then its line feed, then its bytes
 abbrev pub in_line : Option DigitFault → Bool → Result Frame FrameFault → Result Frame FrameFault

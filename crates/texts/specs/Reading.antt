@@ -1,7 +1,8 @@
 -- What a text gives: its frames, or a refusal with the line that shows the fault.
-use Rattle.std.specs.Prelude.{ℕ, ◌+◌, Bool, true, cond, List, [], ◌∷◌, ◌++◌, length, Ok, Err, Result, ◌==◌, nat_lt}
+use Rattle.std.specs.Prelude.{ℕ, ◌+◌, Bool, true, if◌then◌else◌, List, [], ◌∷◌, ◌++◌, length, Ok, Err, Result, ◌==◌, nat_lt}
+use Rattle.std.specs.Result.{result_map_both}
 use Rattle.frames.specs.declared.frame.Frame.{Frame}
-use Rattle.frames.specs.declared.frame.Frame.TheVariants.{Rule, RankStep, Wish, Alternative, End, Fit}
+use Rattle.frames.specs.declared.frame.Frame.TheVariants.{End}
 use Rattle.frames.specs.declared.frame.FrameFault.{FrameFault}
 use Rattle.frames.specs.Frames as frames
 use Rattle.texts.specs.declared.fault.Fault.{Fault}
@@ -25,41 +26,38 @@ number_of NoText = 24
 abbrev pub refused : {A : Type 0} → Fault → ℕ → Result A Refusal
 refused f n = Err (record { fault = f; line = n })
 
-abbrev pub and_then : {A B : Type 0} → Result A Refusal → (A → Result B Refusal) → Result B Refusal
+abbrev pub and_then : {A B E : Type 0} → Result A E → (A → Result B E) → Result B E
 and_then (Ok x) next = next x
 and_then (Err e) next = Err e
 
 -- a fault of line n
 abbrev pub at_line : {A : Type 0} → ℕ → Result A Fault → Result A Refusal
-at_line n (Ok x) = Ok x
-at_line n (Err e) = refused e n
+at_line n r = result_map_both (λ x. x) (λ e. record { fault = e; line = n }) r
 
 abbrev pub as_fault : {A : Type 0} → Result A FrameFault → Result A Fault
-as_fault (Ok x) = Ok x
-as_fault (Err e) = Err (fault.Frame e)
+as_fault r = result_map_both (λ x. x) fault.Frame r
 
 -- the end frame tells how many frames stand before it
 abbrev pub counts : List Frame → Frame → Bool
-counts before (Rule row) = true
-counts before RankStep = true
-counts before (Wish body) = true
-counts before (Alternative level condition) = true
 counts before (End n) = n == length before
-counts before (Fit set) = true
+counts before _ = true
 
 abbrev pub admitted : TextKind → List Frame → Frame → Result (Unit {0}) Fault
-admitted kind before f = cond (in_place kind before f) (cond (counts before f) (Ok tt) (Err Count)) (Err Place)
+admitted kind before f =
+    (if in_place kind before f then (if counts before f then Ok tt else Err Count) else Err Place)
 
 -- the frames of a text, of which those before these lines are known; each line is judged in turn
 abbrev pub read_from : TextKind → List Frame → List Line → Result (List Frame) Refusal
-read_from kind before [] = cond (ended before) (Ok before) (refused Place (length before + 1))
+read_from kind before [] = (if ended before then Ok before else refused Place (length before + 1))
 read_from kind before (line ∷ later) =
     and_then (at_line (length before + 1) (as_fault (frame_in line)))
-    (λ f. and_then (at_line (length before + 1) (admitted kind before f)) (λ _. read_from kind (before ++ f ∷ []) later))
+    (λ f. and_then (at_line (length before + 1) (admitted kind before f))
+    (λ _. read_from kind (before ++ f ∷ []) later))
 
 -- the longest text, in bytes
 abbrev pub limit : ℕ
 limit = 1048576
 
 abbrev pub frames_in : TextKind → List ℕ → Result (List Frame) Refusal
-frames_in kind text = cond (nat_lt limit (length text)) (refused TooLong 0) (read_from kind [] (lines text))
+frames_in kind text =
+    (if nat_lt limit (length text) then refused TooLong 0 else read_from kind [] (lines text))

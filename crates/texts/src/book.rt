@@ -1,9 +1,8 @@
 // Book texts: rules, then wishes with their alternatives, then the end frame.
-ghost use Rattle.std.specs.Prelude.{◌≡◌, ◌&&◌, ◌||◌, length, nat_lt};
-ghost use Rattle.tables.specs.Rows.{makes_rule, makes_wish, makes_alternative};
+ghost use Rattle.std.specs.Prelude.{◌≡◌, length, take};
 ghost use Rattle.texts.specs.Meaning.{BookReading, BookWriting};
-ghost use Rattle.texts.specs.Rows.{BookRead, tables_from};
-ghost use Rattle.texts.specs.Writing.{each, orderly, book_text, write_book, written};
+ghost use Rattle.texts.specs.Rows.{BookRead, book_rows, table_rows, size_of, fronts};
+ghost use Rattle.texts.specs.Writing.{is_sound, book_text, write_book, written};
 
 use crate::book_size::BookSize;
 use crate::checks::{all_make_records, are_orderly};
@@ -11,79 +10,97 @@ use crate::fault::{Fault, Refusal};
 use crate::frame_source::BookFrames;
 use crate::judge::accept;
 use crate::rows::fill;
-use crate::seen::{Seen, TextKind};
+use crate::seen::TextKind;
 use crate::writing::write_text;
 use tables::{AlternativeRow, RuleRow, WishRow};
 
-// Whether a table of so many rows is too short for what was seen.
-fn is_short(seen: Seen, rules: usize, wishes: usize, alternatives: usize) -> bool
-    ensures { result ≡ nat_lt rules seen.rules || (nat_lt wishes seen.wishes || nat_lt alternatives seen.alternatives) }
-{
-    seen.rules > rules || seen.wishes > wishes || seen.alternatives > alternatives
+// The tables of a book.
+#[derive(Clone, Copy)]
+pub struct Book<'a> {
+    pub rules: &'a [RuleRow],
+    pub wishes: &'a [WishRow],
+    pub alternatives: &'a [AlternativeRow],
 }
 
-// Reads a book text into the fronts of three tables; how many rows each has got. A refusal leaves the tables as they were.
-pub fn read_book(
-    text: &[u8],
-    rules: &mut [RuleRow],
-    wishes: &mut [WishRow],
-    alternatives: &mut [AlternativeRow],
-) -> Result<BookSize, Refusal>
-    ensures read { BookRead text.now rules.old wishes.old alternatives.old result rules.new wishes.new alternatives.new }
-    ensures meaning { BookReading text.now }
-{
-    let seen = accept(TextKind::Book, text)?;
-    if is_short(seen, rules.len(), wishes.len(), alternatives.len()) {
-        return Err(Refusal {
-            fault: Fault::TableShort,
-            line: 0,
-        });
+// Tables that a book is read into.
+#[derive(Drop)]
+pub struct BookTables<'a> {
+    pub rules: &'a mut [RuleRow],
+    pub wishes: &'a mut [WishRow],
+    pub alternatives: &'a mut [AlternativeRow],
+}
+
+impl Book<'_> {
+    // Whether each row makes a record, and the rows stand in order.
+    fn is_sound(&self) -> bool
+        ensures { result ≡ is_sound (book_rows self.now) }
+    {
+        all_make_records(self.rules)
+            && all_make_records(self.wishes)
+            && all_make_records(self.alternatives)
+            && are_orderly(self.wishes, self.alternatives)
     }
-    fill(TextKind::Book, text, rules);
-    fill(TextKind::Book, text, wishes);
-    fill(TextKind::Book, text, alternatives);
-    Ok(BookSize {
-        rules: seen.rules,
-        wishes: seen.wishes,
-        alternatives: seen.alternatives,
-    })
-}
 
-// Whether each row of a book makes a record, and the rows stand in order.
-fn are_sound(rules: &[RuleRow], wishes: &[WishRow], alternatives: &[AlternativeRow]) -> bool
-    ensures { result ≡ each makes_rule rules.now && (each makes_wish wishes.now && (each makes_alternative alternatives.now && orderly wishes.now alternatives.now)) }
-{
-    all_make_records(rules)
-        && all_make_records(wishes)
-        && all_make_records(alternatives)
-        && are_orderly(wishes, alternatives)
-}
-
-// Writes the text of a book at the front of a buffer; how many bytes it has. A refusal leaves the buffer as it was.
-pub fn write_book(
-    rules: &[RuleRow],
-    wishes: &[WishRow],
-    alternatives: &[AlternativeRow],
-    out: &mut [u8],
-) -> Result<usize, Refusal>
-    ensures result { result ≡ write_book (tables_from rules.now wishes.now alternatives.now) (length out.old) }
-    ensures meaning { BookWriting (tables_from rules.now wishes.now alternatives.now) }
-    ensures buffer { out.new ≡ written result (book_text (tables_from rules.now wishes.now alternatives.now)) out.old }
-{
-    if !are_sound(rules, wishes, alternatives) {
-        return Err(Refusal {
-            fault: Fault::NoText,
-            line: 0,
-        });
+    // Writes the text of the book at the front of a buffer; how many bytes it has. A refusal leaves the buffer as it was.
+    #[tactic(auto, using(crate::proofs::RoundTrip::book_writing))]
+    pub fn write(&self, out: &mut [u8]) -> Result<usize, Refusal>
+        ensures result { result ≡ write_book (book_rows self.now) (length out.old) }
+        ensures meaning { BookWriting (book_rows self.now) }
+        ensures buffer { out.new ≡ written result (book_text (book_rows self.now)) out.old }
+    {
+        if !self.is_sound() {
+            return Err(Fault::NoText.into());
+        }
+        write_text(BookFrames::of(*self), out)
     }
-    let frames = BookFrames {
-        rules,
-        wishes,
-        alternatives,
-        rule: 0,
-        rank: 1,
-        wish: 0,
-        alternative: 0,
-    };
-    write_text(frames, out)
+}
+
+impl BookTables<'_> {
+    // How many rows the tables have.
+    fn size(&self) -> BookSize
+        ensures { result ≡ size_of (table_rows self.now) }
+    {
+        BookSize {
+            rules: self.rules.len(),
+            wishes: self.wishes.len(),
+            alternatives: self.alternatives.len(),
+        }
+    }
+
+    // Reads a book text into the fronts of the tables; how many rows each has got. A refusal leaves the tables as they were.
+    #[tactic(auto, using(crate::proofs::RoundTrip::book_reading))]
+    pub fn read(&mut self, text: &[u8]) -> Result<BookSize, Refusal>
+        ensures same_rules { self.new.rules.ghost_name ≡ self.old.rules.ghost_name }
+        ensures same_wishes { self.new.wishes.ghost_name ≡ self.old.wishes.ghost_name }
+        ensures same_alternatives { self.new.alternatives.ghost_name ≡ self.old.alternatives.ghost_name }
+        ensures read { BookRead text.now (table_rows self.old) result (table_rows self.new) }
+        ensures meaning { BookReading text.now }
+    {
+        let size = accept(TextKind::Book, text)?.book_size();
+        if size.is_above(self.size()) {
+            return Err(Fault::TableShort.into());
+        }
+        fill(TextKind::Book, text, self.rules);
+        fill(TextKind::Book, text, self.wishes);
+        fill(TextKind::Book, text, self.alternatives);
+        Ok(size)
+    }
+
+    // The book of the first rows, so many of each table, or all that there are.
+    pub fn front(&self, size: BookSize) -> Book<'_>
+        ensures { book_rows result ≡ fronts size (table_rows self.now) }
+    {
+        Book {
+            rules: first(self.rules, size.rules),
+            wishes: first(self.wishes, size.wishes),
+            alternatives: first(self.alternatives, size.alternatives),
+        }
+    }
+}
+
+// The first rows of a table, so many or all that there are.
+fn first<R>(rows: &[R], count: usize) -> &[R]
+    ensures { result.now ≡ take count rows.now }
+{
+    rows.get(..count).unwrap_or(rows)
 }

@@ -1,4 +1,5 @@
-// Catalogue texts: fits, then the end frame.
+// Catalogue texts: fits, then the end frame. The two calls are those of a book at one table; a trait over the tables of both
+// would be longer than what they share.
 ghost use Rattle.std.specs.Prelude.{◌≡◌, length};
 ghost use Rattle.texts.specs.Meaning.{CatalogueReading, CatalogueWriting};
 ghost use Rattle.texts.specs.Rows.{read_catalogue, row_count, rows_of, overwritten};
@@ -14,33 +15,30 @@ use crate::writing::write_text;
 use literals::LiteralSet;
 
 // Reads a catalogue text into the front of a table; how many fits it has. A refusal leaves the table as it was.
+#[tactic(auto, using(crate::proofs::RoundTrip::catalogue_reading))]
 pub fn read_catalogue(text: &[u8], table: &mut [LiteralSet]) -> Result<usize, Refusal>
     ensures result { result ≡ row_count (read_catalogue text.now (length table.old)) }
     ensures meaning { CatalogueReading text.now }
-    ensures table { table.new ≡ overwritten (rows_of (λ rows. rows) (read_catalogue text.now (length table.old))) table.old }
+    ensures table { table.new
+        ≡ overwritten (rows_of (λ rows. rows) (read_catalogue text.now (length table.old))) table.old }
 {
-    let seen = accept(TextKind::Catalogue, text)?;
-    if seen.fits > table.len() {
-        return Err(Refusal {
-            fault: Fault::TableShort,
-            line: 0,
-        });
+    let count = accept(TextKind::Catalogue, text)?.fits;
+    if count > table.len() {
+        return Err(Fault::TableShort.into());
     }
     fill(TextKind::Catalogue, text, table);
-    Ok(seen.fits)
+    Ok(count)
 }
 
 // Writes the text of a catalogue at the front of a buffer; how many bytes it has. A refusal leaves the buffer as it was.
+#[tactic(auto, using(crate::proofs::RoundTrip::catalogue_writing))]
 pub fn write_catalogue(rows: &[LiteralSet], out: &mut [u8]) -> Result<usize, Refusal>
     ensures result { result ≡ write_catalogue rows.now (length out.old) }
     ensures meaning { CatalogueWriting rows.now }
     ensures buffer { out.new ≡ written result (catalogue_text rows.now) out.old }
 {
     if !all_make_records(rows) {
-        return Err(Refusal {
-            fault: Fault::NoText,
-            line: 0,
-        });
+        return Err(Fault::NoText.into());
     }
-    write_text(CatalogueFrames { rows, at: 0 }, out)
+    write_text(CatalogueFrames { rows }, out)
 }

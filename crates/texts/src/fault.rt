@@ -4,6 +4,7 @@ ghost use Rattle.texts.specs.declared.fault.Fault.TheVariants as fault;
 ghost use Rattle.texts.specs.Reading.{number_of};
 
 use frames::FrameFault;
+use literals::Numbered;
 
 #[derive(Clone, Copy, PartialEq, Eq, Debug)]
 pub enum Fault {
@@ -23,6 +24,14 @@ pub enum Fault {
     NoText,
 }
 
+impl From<FrameFault> for Fault {
+    ghost from_gives = { λ f r. r ≡ fault.Frame f };
+
+    fn from(fault: FrameFault) -> Fault {
+        Fault::Frame(fault)
+    }
+}
+
 // A fault, and the line that shows it, from 1; 0 where it lies in no line.
 #[derive(Clone, Copy, PartialEq, Eq, Debug)]
 pub struct Refusal {
@@ -30,11 +39,21 @@ pub struct Refusal {
     pub line: u32,
 }
 
-impl Refusal {
-    // The number of the refusal.
-    pub fn number(&self) -> u8
-        ensures { result ≡ number_of self.now.fault }
-    {
+// A fault that lies in no line.
+impl From<Fault> for Refusal {
+    ghost from_gives = { λ f r. r ≡ record { fault = f; line = 0 } };
+
+    fn from(fault: Fault) -> Refusal {
+        Refusal { fault, line: 0 }
+    }
+}
+
+impl Numbered for Refusal {
+    ghost number = { λ refusal. number_of refusal.fault };
+
+    ghost line = { λ refusal. refusal.line };
+
+    fn number(&self) -> u8 {
         match self.fault {
             Fault::Frame(fault) => fault.number(),
             Fault::Place => 5,
@@ -45,12 +64,8 @@ impl Refusal {
             Fault::NoText => 24,
         }
     }
-}
 
-impl From<FrameFault> for Fault {
-    ghost from_gives = { λ f r. r ≡ fault.Frame f };
-
-    fn from(fault: FrameFault) -> Fault {
-        Fault::Frame(fault)
+    fn line(&self) -> u32 {
+        self.line
     }
 }

@@ -1,13 +1,17 @@
 // The frames of tables, one after another.
-ghost use Rattle.std.specs.Prelude.{◌≡◌, List, [], ◌∷◌, ◌++◌, map, drop, MatchOption};
+ghost use Rattle.std.specs.Prelude.{◌≡◌, ◌+◌, ◌^◌, ◌<◌, false, List, [], ◌∷◌, length, MatchOption, IfNone, IfSome};
 ghost use Rattle.frames.specs.declared.frame.Frame.{Frame};
-ghost use Rattle.texts.specs.Writing.{fit_frames};
+ghost use Rattle.texts.specs.Rows.{book_rows};
+ghost use Rattle.texts.specs.Writing.{fit_frames, book_frames};
 ghost use Rattle.texts.specs.Summary.{book_left, starts_last};
 
+use crate::book::Book;
 use frames::Frame;
 use literals::LiteralSet;
-use tables::{AlternativeRow, RuleRow, WishRow};
+use tables::AlternativeRow;
 
+// Frames, and which of them are still to come. It is no bound of `Iterator`, since that would take three laws beside `left` (that
+// `next` may be called, that it ends, what it gives) for what one clause says here.
 pub trait FrameSource {
     // the frames that are still to come
     ghost left: { Self → List Frame };
@@ -16,78 +20,80 @@ pub trait FrameSource {
         ensures { MatchOption result (left self.old ≡ []) (λ f. left self.old ≡ f ∷ left self.new) };
 }
 
-// The rows of a catalogue from a place on.
+// The rows of a catalogue that are still to come.
 #[derive(Clone, Copy)]
 pub struct CatalogueFrames<'a> {
     pub rows: &'a [LiteralSet],
-    pub at: usize,
 }
 
 impl FrameSource for CatalogueFrames<'_> {
-    ghost left = { λ s. fit_frames (drop s.at s.rows.now) };
+    ghost left = { λ s. fit_frames s.rows.now };
 
     fn next_frame(&mut self) -> Option<Frame> {
-        if self.at >= self.rows.len() {
-            return None;
-        }
-        let row = self.rows[self.at];
-        self.at += 1;
-        Some(Frame::Fit(row))
+        let (row, rest) = self.rows.split_first()?;
+        self.rows = rest;
+        Some(Frame::Fit(*row))
     }
 }
 
-// The tables of a book from a place on: the next rule, then the rank that is reached, the next wish and the next alternative.
+// The rows of a book that are still to come, behind so many wishes, the rank being reached.
 #[derive(Clone, Copy)]
-pub struct BookFrames<'r, 'w, 'a> {
-    pub rules: &'r [RuleRow],
-    pub wishes: &'w [WishRow],
-    pub alternatives: &'a [AlternativeRow],
-    pub rule: usize,
+pub struct BookFrames<'a> {
+    pub book: Book<'a>,
     pub rank: u8,
-    pub wish: usize,
-    pub alternative: usize,
+    pub wishes: usize,
+    ghost few: { wishes + length book.wishes.now < 2 ^ 64 },
 }
 
-impl BookFrames<'_, '_, '_> {
-    // Whether the next alternative is one of the last wish.
-    fn alternative_follows(&self) -> bool
-        ensures { result ≡ starts_last self.now.wish (drop self.now.alternative self.now.alternatives.now) }
+impl<'a> BookFrames<'a> {
+    // All rows of a book.
+    pub fn of(book: Book<'a>) -> BookFrames<'a>
+        ensures { book_left (book_rows result.book) result.rank result.wishes
+            ≡ book_frames (book_rows book.entry) }
     {
-        if self.alternative >= self.alternatives.len() {
-            return false;
+        BookFrames {
+            book,
+            rank: 1,
+            wishes: 0,
         }
-        let wish = self.alternatives[self.alternative].wish;
-        wish < self.wish && wish + 1 == self.wish
+    }
+
+    // The next alternative, where it is one of the last wish, and those behind it.
+    fn own_alternative(&self) -> Option<(AlternativeRow, &'a [AlternativeRow])>
+        ensures none { IfNone result (starts_last self.now.wishes self.now.book.alternatives.now ≡ false) }
+        ensures first { IfSome result (λ p. self.now.book.alternatives.now ≡ p.0 ∷ p.1.now) }
+        ensures own { IfSome result (λ p. p.0.wish + 1 ≡ self.now.wishes) }
+    {
+        let (alternative, rest) = self.book.alternatives.split_first()?;
+        if alternative.wish.checked_add(1) != Some(self.wishes) {
+            return None;
+        }
+        Some((*alternative, rest))
     }
 }
 
-impl FrameSource for BookFrames<'_, '_, '_> {
-    ghost left = { λ s. book_left (drop s.rule s.rules.now) s.rank s.wish (drop s.wish s.wishes.now) (drop s.alternative s.alternatives.now) };
+impl FrameSource for BookFrames<'_> {
+    ghost left = { λ s. book_left (book_rows s.book) s.rank s.wishes };
 
     fn next_frame(&mut self) -> Option<Frame> {
-        if self.rule < self.rules.len() {
-            let rule = self.rules[self.rule];
-            self.rule += 1;
-            return Some(Frame::Rule(rule));
+        if let Some((rule, rest)) = self.book.rules.split_first() {
+            self.book.rules = rest;
+            return Some(Frame::Rule(*rule));
         }
-        if self.alternative_follows() {
-            let AlternativeRow {
-                wish: _,
-                level,
-                condition,
-            } = self.alternatives[self.alternative];
-            self.alternative += 1;
-            return Some(Frame::Alternative { level, condition });
+        if let Some((alternative, rest)) = self.own_alternative() {
+            self.book.alternatives = rest;
+            return Some(Frame::Alternative {
+                level: alternative.level,
+                condition: alternative.condition,
+            });
         }
-        if self.wish >= self.wishes.len() {
-            return None;
-        }
-        let wish = self.wishes[self.wish];
+        let (wish, rest) = self.book.wishes.split_first()?;
         if self.rank < wish.rank {
             self.rank += 1;
             return Some(Frame::RankStep);
         }
-        self.wish += 1;
+        self.book.wishes = rest;
+        self.wishes += 1;
         Some(Frame::Wish(wish.body))
     }
 }

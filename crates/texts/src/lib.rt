@@ -12,7 +12,7 @@ mod rows;
 mod seen;
 mod writing;
 
-pub use book::{read_book, write_book};
+pub use book::{Book, BookTables};
 pub use book_size::BookSize;
 pub use catalogue::{read_catalogue, write_catalogue};
 pub use fault::{Fault, Refusal};

@@ -73,7 +73,8 @@ impl FrameRow for LiteralSet {
     }
 }
 
-// Puts a row, if there is one, behind the first `count`; how many there are then.
+// Puts a row, if there is one, behind the first `count`; how many there are then. The count stands beside the table since of a
+// tail that the loop below would hand on, as by `split_first_mut`, the proof does not know what it leaves in the table (tried).
 fn put<R: Copy>(table: &mut [R], count: usize, row: Option<R>) -> usize
     requires { length (onto row []) + count ≤ length table.old }
     ensures number { result ≡ count + length (onto row []) }
@@ -90,11 +91,13 @@ fn put<R: Copy>(table: &mut [R], count: usize, row: Option<R>) -> usize
 
 // Writes the rows that an accepted text gives at the front of a table.
 pub(crate) fn fill<R: FrameRow + Copy>(kind: TextKind, text: &[u8], table: &mut [R])
-    requires { (fs : List Frame) × (frames_in kind text.now ≡ Ok fs) × (length (rows_in R.given fs) ≤ length table.old) }
-    ensures { (fs : List Frame) → frames_in kind text.now ≡ Ok fs → table.new ≡ overwritten (rows_in R.given fs) table.old }
+    requires { (fs : List Frame) × (frames_in kind text.now ≡ Ok fs)
+        × (length (rows_in R.given fs) ≤ length table.old) }
+    ensures { (fs : List Frame) → frames_in kind text.now ≡ Ok fs
+        → table.new ≡ overwritten (rows_in R.given fs) table.old }
 {
     let mut rest = text;
-    let mut seen = Seen::start();
+    let mut seen = Seen::START;
     let mut count = 0;
     while let Ok((frame, behind)) = next_frame(kind, seen, rest) {
         count = put(table, count, R::of_frame(seen.steps, seen.wishes, frame));

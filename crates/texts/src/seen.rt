@@ -2,7 +2,9 @@
 
 mod calls;
 
-// The two sorts of texts.
+use frames::Frame;
+
+// The two sorts of texts. They differ in which frames may stand where, and there alone one asks which it is.
 #[derive(Clone, Copy, PartialEq, Eq, Debug)]
 pub enum TextKind {
     // rules, then wishes with their alternatives, then the end frame
@@ -11,7 +13,7 @@ pub enum TextKind {
     Catalogue,
 }
 
-// The frames before a line: how many there are of each sort that counts, and which stood last.
+// The frames before a line: how many there are, in all and of each sort that counts, and the last of them.
 #[derive(Clone, Copy)]
 pub struct Seen {
     pub frames: usize,
@@ -20,10 +22,5 @@ pub struct Seen {
     pub wishes: usize,
     pub alternatives: usize,
     pub fits: usize,
-    // the end frame has come
-    pub ended: bool,
-    // the last frame was a rank step
-    pub on_step: bool,
-    // the last frame was a wish or an alternative
-    pub on_wish: bool,
+    pub last: Option<Frame>,
 }

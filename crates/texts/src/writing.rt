@@ -1,5 +1,5 @@
 // Writing the text of frames: it is measured first, so that a refusal leaves the buffer as it was.
-ghost use Rattle.std.specs.Prelude.{◌≡◌, ◌≤◌, true, false, ◌++◌, length, drop, MatchOption};
+ghost use Rattle.std.specs.Prelude.{◌≡◌, ◌≤◌, true, false, ◌++◌, length, drop, MatchOption, IfSome};
 ghost use Rattle.texts.specs.Writing.{ending, text_of, holdable, write_text, written};
 
 use crate::fault::{Fault, Refusal};
@@ -17,9 +17,12 @@ struct TextSize {
     frames: u16,
 }
 
-// The size of the text of frames, the end frame included; none where no text can hold them.
+// The size of the text of frames, the end frame included; none where no text can hold them. Bytes and frames are added up here,
+// since a source of frames is no iterator.
 fn measure<F: FrameSource + Copy>(frames: F) -> Option<TextSize>
-    ensures { MatchOption result (holdable (F.left frames) ≡ false) (λ s. (holdable (F.left frames) ≡ true) × (s.bytes ≡ length (text_of (ending (F.left frames)))) × (s.frames ≡ length (F.left frames))) }
+    ensures can { MatchOption result (holdable (F.left frames) ≡ false) (λ _. holdable (F.left frames) ≡ true) }
+    ensures bytes { IfSome result (λ s. s.bytes ≡ length (text_of (ending (F.left frames)))) }
+    ensures frames { IfSome result (λ s. s.frames ≡ length (F.left frames)) }
 {
     let mut source = frames;
     let mut bytes = END_LINE;
@@ -37,7 +40,8 @@ fn measure<F: FrameSource + Copy>(frames: F) -> Option<TextSize>
     })
 }
 
-// Writes the lines of frames at the front of a buffer, each into the tail behind the line before; how many bytes they have.
+// Writes the lines of frames at the front of a buffer, each into the tail behind the line before; how many bytes they have. The
+// place is counted, since of a tail that is handed on the proof does not know what it leaves in the buffer (tried).
 fn write_lines<F: FrameSource + Copy>(frames: F, out: &mut [u8]) -> usize
     requires { length (text_of (F.left frames)) ≤ length out.old }
     ensures number { result ≡ length (text_of (F.left frames)) }
@@ -46,30 +50,23 @@ fn write_lines<F: FrameSource + Copy>(frames: F, out: &mut [u8]) -> usize
     let mut source = frames;
     let mut at = 0;
     while let Some(frame) = source.next_frame() {
-        let Some(length) = write_frame(frame, &mut out[at..]) else {
-            return at;
-        };
-        at += length;
+        at += write_frame(frame, &mut out[at..]).unwrap();
     }
     at
 }
 
-// Writes the text of frames, the end frame included, at the front of a buffer; how many bytes it has. A refusal leaves the buffer as it was.
+// Writes the text of frames, the end frame included, at the front of a buffer; how many bytes it has. A refusal leaves the buffer
+// as it was.
 pub(crate) fn write_text<F: FrameSource + Copy>(frames: F, out: &mut [u8]) -> Result<usize, Refusal>
-    ensures result { result ≡ write_text (holdable (F.left frames)) (text_of (ending (F.left frames))) (length out.old) }
+    ensures result { result
+        ≡ write_text (holdable (F.left frames)) (text_of (ending (F.left frames))) (length out.old) }
     ensures buffer { out.new ≡ written result (text_of (ending (F.left frames))) out.old }
 {
     let Some(size) = measure(frames) else {
-        return Err(Refusal {
-            fault: Fault::NoText,
-            line: 0,
-        });
+        return Err(Fault::NoText.into());
     };
     if out.len() < size.bytes {
-        return Err(Refusal {
-            fault: Fault::BufferShort,
-            line: 0,
-        });
+        return Err(Fault::BufferShort.into());
     }
     let at = write_lines(frames, out);
     let _ = write_frame(Frame::End(size.frames), &mut out[at..]);

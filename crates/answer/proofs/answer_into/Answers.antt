@@ -1,47 +1,40 @@
 use Rattle.std.proofs.Common.{length, sym, ap, ◌∙◌}
+use Rattle.std.specs.Result.{result_ok}
+use Rattle.std.proofs.lemmas.Bool.{lt-ltb, cond-true}
+use Rattle.frames.specs.AnswerLines.{refusal_line}
 use Rattle.frames.specs.Frames.{wrote_in, written_in}
-use Rattle.std.proofs.lemmas.Bool.{le-ltb, cond-false}
-use Rattle.texts.specs.Rows.{read_book}
-use Rattle.texts.specs.Writing.{book_text, writable_book}
-use Rattle.answer.specs.Answers.{longest, shown}
-use Rattle.answer.proofs.AnswerLaws.{read_some, read_none, fronts_within, fronts_are, book_of, again}
+use Rattle.texts.specs.Reading.{number_of}
+use Rattle.texts.specs.Writing.{book_text, writable_book, write_book, written}
+use Rattle.texts.specs.Rows.{fronts, table_rows}
+use Rattle.answer.specs.Answers.{longest}
+use Rattle.answer.proofs.AnswerLaws.{wrote_text, written_text, ok_of, refused_line, front_writable, front_text}
 use Rattle.answer.proofs.answer_into.Goals as goal
 
-pub returns-in-Err : goal.returns-in-Err
-returns-in-Err c =
-    let input = c.args.input.now in
+pub returns-then-input-gt-LONGEST-clause-buffer : goal.returns-then-input-gt-LONGEST-clause-buffer
+returns-then-input-gt-LONGEST-clause-buffer c =
     let out = c.args.out.now in
-    let read = read_book input (length c.args.rules.now) (length c.args.wishes.now) (length c.args.alternatives.now) in
-    let line = cond-false _ _ _ (le-ltb longest (length input) c.if-input-gt-LONGEST.false) ∙ ap shown (read_none read c.in-Err.refusal c.in-Err.ensures.read.result) in
-    record {
-      result = c.refuse-in-Err.ensures.result ∙ sym (ap (λ l. wrote_in l out) line);
-      buffer = c.refuse-in-Err.ensures.buffer ∙ sym (ap (λ l. written_in l out) line);
-    }
+    c.write_refusal.ensures.buffer ∙ ap (λ x. written_in (refusal_line (number_of x.fault) x.line) out) c.from.ensures
+    ∙ sym (ap (λ l. written_in l out) (cond-true _ _ _ (lt-ltb longest (length c.args.input.now) c.if-input-gt-LONGEST.true)))
 
-pub write_fronts-requires : goal.write_fronts-requires
-write_fronts-requires c =
-    let input = c.args.input.now in
-    let a = length c.args.rules.now in
-    let b = length c.args.wishes.now in
-    let d = length c.args.alternatives.now in
-    let read = read_book input a b d in
-    let (t, ok) = read_some read c.in-Ok.size c.in-Ok.ensures.read.result in
-    let within = fronts_within read t ok c.in-Ok.size c.in-Ok.ensures.read.result c.args.rules.now c.read_book.new.rules c.args.wishes.now c.read_book.new.wishes c.args.alternatives.now c.read_book.new.alternatives
-    c.in-Ok.ensures.read.rule_table c.in-Ok.ensures.read.wish_table c.in-Ok.ensures.read.alternative_table in
-    let are = fronts_are read t ok c.in-Ok.size c.in-Ok.ensures.read.result c.args.rules.now c.read_book.new.rules c.args.wishes.now c.read_book.new.wishes c.args.alternatives.now c.read_book.new.alternatives
-    c.in-Ok.ensures.read.rule_table c.in-Ok.ensures.read.wish_table c.in-Ok.ensures.read.alternative_table in
-    record { rules = within.0; wishes = within.1; alternatives = within.2; writable = ap writable_book are ∙ (again input t (book_of input a b d t ok)).0 }
-
-pub returns : goal.returns
-returns c =
-    let input = c.args.input.now in
+pub returns-in-Ok-clause-result : goal.returns-in-Ok-clause-result
+returns-in-Ok-clause-result c =
     let out = c.args.out.now in
-    let read = read_book input (length c.args.rules.now) (length c.args.wishes.now) (length c.args.alternatives.now) in
-    let (t, ok) = read_some read c.in-Ok.size c.in-Ok.ensures.read.result in
-    let are = fronts_are read t ok c.in-Ok.size c.in-Ok.ensures.read.result c.args.rules.now c.read_book.new.rules c.args.wishes.now c.read_book.new.wishes c.args.alternatives.now c.read_book.new.alternatives
-    c.in-Ok.ensures.read.rule_table c.in-Ok.ensures.read.wish_table c.in-Ok.ensures.read.alternative_table in
-    let text = ap book_text are ∙ sym (cond-false _ _ _ (le-ltb longest (length input) c.if-input-gt-LONGEST.false) ∙ ap shown ok) in
-    record {
-      result = c.write_fronts.ensures.result ∙ ap (λ l. wrote_in l out) text;
-      buffer = c.write_fronts.ensures.buffer ∙ ap (λ l. written_in l out) text;
-    }
+    let read = c.in-Ok.ensures.read in
+    let book = fronts c.in-Ok.size (table_rows c.read.new.self) in
+    c.ok-in-Ok.ensures.value ∙ ap result_ok (c.write.ensures.result ∙ ap (λ t. write_book t (length out)) c.front.ensures) ∙ wrote_text (book_text book) out (writable_book book) (front_writable c.args.input.now read)
+    ∙ ap (λ l. wrote_in l out) (front_text c.args.input.now read c.if-input-gt-LONGEST.false)
+
+pub returns-in-Ok-clause-buffer : goal.returns-in-Ok-clause-buffer
+returns-in-Ok-clause-buffer c =
+    let out = c.args.out.now in
+    let read = c.in-Ok.ensures.read in
+    let book = fronts c.in-Ok.size (table_rows c.read.new.self) in
+    c.write.ensures.buffer ∙ ap (λ t. written c.write.result (book_text t) out) c.front.ensures ∙ ap (λ r. written r (book_text book) out) (c.write.ensures.result ∙ ap (λ t. write_book t (length out)) c.front.ensures)
+    ∙ written_text (book_text book) out (writable_book book) (front_writable c.args.input.now read) ∙ ap (λ l. written_in l out) (front_text c.args.input.now read c.if-input-gt-LONGEST.false)
+
+pub returns-in-Err-clause-result : goal.returns-in-Err-clause-result
+returns-in-Err-clause-result c =
+    c.ok-in-Err.ensures.value ∙ ap result_ok c.write_refusal-in-Err.ensures.result ∙ ok_of _ _ ∙ sym (ap (λ l. wrote_in l c.args.out.now) (refused_line c.args.input.now c.in-Err.ensures.read c.if-input-gt-LONGEST.false))
+
+pub returns-in-Err-clause-buffer : goal.returns-in-Err-clause-buffer
+returns-in-Err-clause-buffer c = c.write_refusal-in-Err.ensures.buffer ∙ sym (ap (λ l. written_in l c.args.out.now) (refused_line c.args.input.now c.in-Err.ensures.read c.if-input-gt-LONGEST.false))

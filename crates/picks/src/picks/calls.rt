@@ -1,5 +1,5 @@
 // Picking and releasing literals.
-ghost use Rattle.std.specs.Prelude.{◌≡◌, Decides};
+ghost use Rattle.std.specs.Prelude.{◌≡◌, ◌↔◌, IsTrue};
 ghost use Rattle.picks.specs.Picking.{Picked, Keeps, With, Released, KnownBySides};
 ghost use Rattle.literals.specs.Sets.{Lit, named};
 ghost use Rattle.picks.specs.declared.picks.Side.TheVariants.{Required, Excluded};
@@ -21,7 +21,7 @@ impl Picks {
 
     // Whether the literal is on either side.
     pub fn is_picked(self, literal: Literal) -> bool
-        ensures { Decides result (Picked self (named literal.code)) }
+        ensures { IsTrue result ↔ Picked self (named literal.code) }
     {
         self.required.has(literal) || self.excluded.has(literal)
     }
@@ -55,7 +55,8 @@ impl Picks {
         })
     }
 
-    // The picks with one literal more on a side: none if it cannot be there.
+    // The picks with one literal more on a side: none if it cannot be there. The sides differ in what bars a literal, so a call of
+    // the one or the other is plainer than a side's own step handed in.
     pub fn with(self, literal: Literal, side: Side) -> Option<Picks>
         ensures { With self side (named literal.code) result }
     {
@@ -77,17 +78,18 @@ impl Picks {
 
     // Whether the fit has every required literal and no excluded one.
     pub fn kept_by(self, fit: Fit) -> bool
-        ensures { Decides result (Keeps self fit) }
+        ensures { IsTrue result ↔ Keeps self fit }
     {
         let literals = fit.literals();
         self.required.is_subset(literals) && self.excluded.is_disjoint(literals)
     }
 
-    // Whether the picks are the same.
+    // Whether the picks are the same, as `==` tells.
+    #[tactic(auto, using(crate::proofs::Sides::known_by_sides))]
     pub fn is_same(self, other: Picks) -> bool
-        ensures same { Decides result (self ≡ other) }
+        ensures same { IsTrue result ↔ (self ≡ other) }
         ensures known { KnownBySides }
     {
-        self.required.is_same(other.required) && self.excluded.is_same(other.excluded)
+        self == other
     }
 }

@@ -1,5 +1,8 @@
-use Rattle.stations.proofs.Worked.{stations_stand}
+use Rattle.stations.proofs.Worked.{all_listed, last_broad}
 use Rattle.stations.proofs.stations_stand.Goals as goal
 
-pub returns : goal.returns
-returns c = stations_stand
+pub returns-clause-listed : goal.returns-clause-listed
+returns-clause-listed c = all_listed
+
+pub returns-clause-broad : goal.returns-clause-broad
+returns-clause-broad c = last_broad

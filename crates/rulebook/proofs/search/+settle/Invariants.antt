@@ -1,7 +1,0 @@
-use Rattle.std.proofs.Common.{◌-◌}
-use Rattle.literals.specs.Sets.{size}
-use Rattle.rulebook.proofs.search.+settle.Given as goal
-
--- the number of open literals
-abbrev pub decreases-settle : goal.decreases-settle
-decreases-settle g l = size l.bounds.upper - size l.bounds.lower
