@@ -20,7 +20,8 @@ pub(crate) struct Search<'a, F> {
 }
 
 impl<'a, F: Filter> Search<'a, F> {
-    // The first answer set that keeps the picks, passes, and comes after the given fit, if one is given.
+    // The first answer set that keeps the picks, passes, and comes after the given fit, if one is given. The picks stand while the
+    // fit goes on, so they are two parameters.
     pub(crate) fn first_after(&self, picks: Picks, after: Option<Fit>) -> Option<Fit>
         ensures { First
             (NextPassing (λ f. AnswerSet (rules_of self.now.rows.now) f.literals)

@@ -6,7 +6,7 @@ use std::alloc::{AllocError, Global};
 use texts::{Fault, Refusal};
 
 // Whether the tables give the text again, in a buffer of just its length. Text and tables stay two parameters, here and below,
-// since reading the one changes the other.
+// since reading the one changes the other, and the allocator is one, since it is only handed on.
 fn gives_again<T: TextTables>(heap: Global, text: &[u8], tables: &T) -> Result<bool, AllocError> {
     let mut buffer = vec![in heap; UNTOUCHED; text.len()]?;
     let wrote = tables.write(buffer.as_mut_slice());

@@ -40,8 +40,9 @@ fn measure<F: FrameSource + Copy>(frames: F) -> Option<TextSize>
     })
 }
 
-// Writes the lines of frames at the front of a buffer, each into the tail behind the line before; how many bytes they have. The
-// place is counted, since of a tail that is handed on the proof does not know what it leaves in the buffer (tried).
+// Writes the lines of frames at the front of a buffer, each into the tail behind the line before, as the project asks; how many
+// bytes they have. The place is counted, since of a tail that is handed on the proof does not know what it leaves in the buffer
+// (tried).
 fn write_lines<F: FrameSource + Copy>(frames: F, out: &mut [u8]) -> usize
     requires { length (text_of (F.left frames)) ≤ length out.old }
     ensures number { result ≡ length (text_of (F.left frames)) }

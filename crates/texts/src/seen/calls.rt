@@ -83,7 +83,7 @@ impl Seen {
         }
     }
 
-    // Refuses a frame that may not come next.
+    // Refuses a frame that may not come next. Here alone one asks for the kind: there are two grammars.
     pub(crate) fn admit(self, kind: TextKind, frame: Frame) -> Result<(), Fault>
         ensures { (fs : List Frame) → Saw self fs → result ≡ admitted kind fs frame }
     {
