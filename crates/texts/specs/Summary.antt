@@ -34,7 +34,7 @@ size_seen seen = record {
   alternatives = seen.alternatives;
 }
 
--- it is what is seen of these frames, none of which stands behind an end frame
+-- it is what is seen of these frames, and where an end frame is among them, the last is one
 pub record Saw (seen : Seen) (fs : List Frame) : Type 0 where
   pub summary : seen ≡ seen_of fs
   pub end_last : ended fs ≡ is_last is_end fs
