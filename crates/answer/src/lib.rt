@@ -51,5 +51,6 @@ pub fn answer(heap: Global, input: &[u8]) -> Result<Vec<u8>, AllocError>
     };
     let count = answer_into(input, tables, out.as_mut_slice()).unwrap();
     out.truncate(count);
+    out.shrink_to_fit();
     Ok(out)
 }

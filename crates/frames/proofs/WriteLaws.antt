@@ -1,12 +1,14 @@
 -- Laws of writing.
-use Rattle.std.proofs.Common.{◌≡◌, ℕ, suc, ◌+◌, ◌-◌, ◌*◌, ◌<◌, ◌≤◌, List, [], ◌∷◌, ◌++◌, length, get_or, take, drop, Some, Option, sym, ap, ◌∙◌, le_refl, mul-suc, arith}
+use Rattle.std.proofs.Common.{◌≡◌, ℕ, suc, sum, ◌+◌, ◌-◌, ◌*◌, ◌%◌, ◌<◌, ◌≤◌, List, [], ◌∷◌, ◌++◌, length, get_or, take, drop, Some, Option, sym, ap, ◌∙◌, le_refl, mul-suc, arith}
 use Rattle.std.proofs.Math.Nat.{mul-le-mul_left}
 use borrow.Rule.Slice.PartMut.{put_mid}
 use Rattle.std.specs.List.{flat_map}
 use Rattle.std.proofs.lemmas.List.{append_assoc, append-nil, length-append, length-drop, take_at, take_rest, take_more, drop_at, drop_all, length-take-le, flat_map_more}
 use Rattle.std.proofs.lemmas.Bool.{le-ltb, cond-false}
 use Rattle.literals.specs.declared.condition.Condition.{Condition}
-use Rattle.frames.specs.Frames.{word_bytes, condition_bytes, overwritten, wrote_in, written_in}
+use Rattle.frames.specs.Digits.{hex_of}
+use Rattle.frames.specs.Frames.{word_bytes, condition_bytes, sealed, line_with, overwritten, wrote_in, written_in}
+use Rattle.frames.proofs.HexLaws.{length_hex_of}
 use Rattle.frames.proofs.WordLaws.{length_word_bytes}
 
 -- what a slice holds after its tail was lent and written
@@ -19,6 +21,13 @@ tail_written xs ys front back n e l =
 -- the tail that is lent
 pub tail_is : {X : Type 0} (xs front back : List X) (n : ℕ) → xs ≡ front ++ back → length front ≡ n → take (length xs - n) (drop n xs) ≡ back
 tail_is xs front back n e l = take_rest xs n ∙ ap (drop n) e ∙ drop_at front back n l
+
+-- the length of a line
+pub line_with_long : (body : List ℕ) → length (line_with (sealed body)) ≡ 2 * length body + 3
+line_with_long body =
+    let l = length_hex_of (sealed body) in
+    let m = length-append body ((sum body % 251) ∷ []) in
+    length-append (hex_of (sealed body)) (10 ∷ []) ∙ omega arith
 
 -- a line and a buffer with room for it
 module _ (line out : List ℕ) where

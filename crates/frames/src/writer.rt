@@ -29,7 +29,8 @@ fn check_byte(body: &[u8]) -> u8
 // The line of a kind and fields: their digits and those of the check byte, and a line feed.
 fn line(body: &[u8]) -> ArrayVec<u8, LONGEST_LINE>
     requires { length body.now ≤ 512 }
-    ensures { result.items ≡ line_with (sealed body.now) }
+    ensures bytes { result.items ≡ line_with (sealed body.now) }
+    ensures len { length result.items ≡ 2 * length body.now + 3 }
 {
     let mut line = ArrayVec::new();
     for byte in body {
@@ -41,18 +42,18 @@ fn line(body: &[u8]) -> ArrayVec<u8, LONGEST_LINE>
 }
 
 // Writes the line of a kind and fields at the front of `out`, and leaves what is behind it.
-// Where there is no room it writes nothing.
+// Where there is no room it writes nothing, and makes no line.
+#[tactic(auto, using(crate::proofs::WriteLaws::line_with_long))]
 pub(crate) fn write_line(body: &[u8], out: &mut [u8]) -> Option<usize>
     requires { length body.now ≤ 512 }
     ensures result { result ≡ wrote_in (line_with (sealed body.now)) out.old }
     ensures buffer { out.new ≡ written_in (line_with (sealed body.now)) out.old }
 {
-    let line = line(body);
-    let count = line.len();
+    let count = 2 * body.len() + 3;
     if out.len() < count {
         return None;
     }
-    out[..count].copy_from_slice(line.as_slice());
+    out[..count].copy_from_slice(line(body).as_slice());
     Some(count)
 }
 

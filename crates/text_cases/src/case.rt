@@ -1,6 +1,5 @@
 // One case: its words tell what is tried.
 use crate::reading::read_text;
-use crate::text::text_of;
 use crate::text_tables::{BookCase, CatalogueCase, TextTables};
 use crate::words::values_of;
 use crate::writing::try_write;
@@ -16,7 +15,6 @@ pub fn lacking<T>() -> anyhow::Result<T> {
 // The words tell how long the tables are, and then the text.
 fn read_case<T: TextTables>(heap: Global, words: &[&str]) -> anyhow::Result<String> {
     let (mut tables, text) = T::of_lengths(heap, words)?;
-    let text = text_of(heap, text)?;
     Ok(read_text(heap, text.as_slice(), &mut tables)?)
 }
 

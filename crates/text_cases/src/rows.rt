@@ -30,12 +30,16 @@ fn rule_of(fields: &[&str]) -> anyhow::Result<RuleRow> {
             body,
         },
         ["constraint"] => RuleRow::Constraint { body },
-        ["choice", least, greatest, plus, minus] => RuleRow::Choice {
-            least: least.parse::<u8>()?,
-            greatest: greatest.parse::<u8>()?,
-            head: set_of(plus, minus)?,
-            body,
-        },
+        ["choice", least, greatest, plus, minus] => {
+            // The head is read before the numbers: where both are bad, the message is the head's.
+            let head = set_of(plus, minus)?;
+            RuleRow::Choice {
+                least: least.parse::<u8>()?,
+                greatest: greatest.parse::<u8>()?,
+                head,
+                body,
+            }
+        }
         _ => return Err(anyhow!("no such row")),
     })
 }

@@ -19,9 +19,7 @@ pub fn text_of(heap: Global, words: &[&str]) -> anyhow::Result<Vec<u8>> {
     let mut text = Vec::new(heap);
     for word in words {
         let (times, once) = repeated(word)?;
-        for _ in 0..times {
-            text.extend(once.bytes().map(meant))?;
-        }
+        text.extend((0..times).flat_map(|_| once.bytes()).map(meant))?;
     }
     Ok(text)
 }

@@ -2,6 +2,7 @@
 use crate::case::lacking;
 use crate::rows::{Row, rows_of};
 use crate::table::Table;
+use crate::text::text_of;
 use anyhow::anyhow;
 use literals::LiteralSet;
 use std::alloc::Global;
@@ -11,11 +12,8 @@ use texts::{Book, BookTables, Refusal, read_catalogue, write_catalogue};
 
 // What each kind of text does with its tables. Shown, tables are the numbers of their rows in use.
 pub trait TextTables: fmt::Display + Sized + Drop {
-    // Tables of the lengths that stand first in words, no row being in use, and the words behind those.
-    fn of_lengths<'w, 's>(
-        heap: Global,
-        words: &'w [&'s str],
-    ) -> anyhow::Result<(Self, &'w [&'s str])>;
+    // Tables of the lengths that stand first in words, no row being in use, and the text of the words behind those.
+    fn of_lengths(heap: Global, words: &[&str]) -> anyhow::Result<(Self, Vec<u8>)>;
 
     // Tables of the rows of these words, all in use.
     fn of_rows(heap: Global, words: &[&str]) -> anyhow::Result<Self>;
@@ -49,23 +47,21 @@ impl fmt::Display for BookCase {
 }
 
 impl TextTables for BookCase {
-    fn of_lengths<'w, 's>(
-        heap: Global,
-        words: &'w [&'s str],
-    ) -> anyhow::Result<(BookCase, &'w [&'s str])> {
-        let [rules, wishes, alternatives, rest @ ..] = words else {
+    // Every word is read before the tables are made, so that a bad one costs no memory.
+    fn of_lengths(heap: Global, words: &[&str]) -> anyhow::Result<(BookCase, Vec<u8>)> {
+        let [rules, wishes, alternatives, text @ ..] = words else {
             return lacking();
         };
+        let rules = rules.parse::<usize>()?;
+        let wishes = wishes.parse::<usize>()?;
+        let alternatives = alternatives.parse::<usize>()?;
+        let text = text_of(heap, text)?;
         let tables = BookCase {
-            rules: Table::of_fillers(heap, RuleRow::FILLER, rules.parse::<usize>()?)?,
-            wishes: Table::of_fillers(heap, WishRow::FILLER, wishes.parse::<usize>()?)?,
-            alternatives: Table::of_fillers(
-                heap,
-                AlternativeRow::FILLER,
-                alternatives.parse::<usize>()?,
-            )?,
+            rules: Table::of_fillers(heap, RuleRow::FILLER, rules)?,
+            wishes: Table::of_fillers(heap, WishRow::FILLER, wishes)?,
+            alternatives: Table::of_fillers(heap, AlternativeRow::FILLER, alternatives)?,
         };
-        Ok((tables, rest))
+        Ok((tables, text))
     }
 
     fn of_rows(heap: Global, words: &[&str]) -> anyhow::Result<BookCase> {
@@ -127,15 +123,12 @@ impl fmt::Display for CatalogueCase {
 }
 
 impl TextTables for CatalogueCase {
-    fn of_lengths<'w, 's>(
-        heap: Global,
-        words: &'w [&'s str],
-    ) -> anyhow::Result<(CatalogueCase, &'w [&'s str])> {
-        let [fits, rest @ ..] = words else {
+    fn of_lengths(heap: Global, words: &[&str]) -> anyhow::Result<(CatalogueCase, Vec<u8>)> {
+        let [fits, text @ ..] = words else {
             return lacking();
         };
         let fits = Table::of_fillers(heap, FIT_FILLER, fits.parse::<usize>()?)?;
-        Ok((CatalogueCase { fits }, rest))
+        Ok((CatalogueCase { fits }, text_of(heap, text)?))
     }
 
     fn of_rows(heap: Global, words: &[&str]) -> anyhow::Result<CatalogueCase> {
