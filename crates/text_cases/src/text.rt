@@ -14,12 +14,14 @@ fn meant(byte: u8) -> u8 {
     }
 }
 
-// The text of these words, each behind the one before.
+// The text of these words, each behind the one before. A word with its copies is its bytes over and over; were they more than can
+// be counted, memory would be wanting long before.
 pub fn text_of(heap: Global, words: &[&str]) -> anyhow::Result<Vec<u8>> {
     let mut text = Vec::new(heap);
     for word in words {
         let (times, once) = repeated(word)?;
-        text.extend((0..times).flat_map(|_| once.bytes()).map(meant))?;
+        let count = times.saturating_mul(once.len());
+        text.extend(once.bytes().cycle().take(count).map(meant))?;
     }
     Ok(text)
 }
