@@ -14,14 +14,15 @@ fn meant(byte: u8) -> u8 {
     }
 }
 
-// The text of these words, each behind the one before. A word with its copies is its bytes over and over; were they more than can
-// be counted, memory would be wanting long before.
+// The text of these words, each behind the one before. It grows byte by byte: a word with many copies reserves no more than the
+// bytes need as they come.
 pub fn text_of(heap: Global, words: &[&str]) -> anyhow::Result<Vec<u8>> {
     let mut text = Vec::new(heap);
     for word in words {
         let (times, once) = repeated(word)?;
-        let count = times.saturating_mul(once.len());
-        text.extend(once.bytes().cycle().take(count).map(meant))?;
+        for byte in (0..times).flat_map(|_| once.bytes()) {
+            text.push(meant(byte))?;
+        }
     }
     Ok(text)
 }
