@@ -11,7 +11,7 @@ use Rattle.tables.specs.declared.records.Rule.{Rule}
 use Rattle.answer_sets.specs.AnswerSets.{ClosedUnder, AnswerSet}
 use Rattle.answer_sets.specs.Closing.{ClosedBy}
 use Rattle.answer_sets.specs.Rules.{Gives}
-use Rattle.propagation.specs.Narrowing.{Tighter}
+use Rattle.propagation.specs.Narrowing.{Tighter, Lawful}
 
 closed_includes : (rules : List Rule) (b : Bounds) (x : LiteralSet) → All (ClosedBy b.lower b.upper x) rules
     → (s : LiteralSet) → AnswerSet rules s → Between b s → s ⊑ x
@@ -32,3 +32,7 @@ by_founded rules b x u closed both = record {
   high = both.left;
   keeps = λ s a w. record { low = w.low; high = λ k h. both.all k (w.high k h) (closed_includes rules b x closed s a w k h) };
 }
+
+-- what loses no answer set loses no lawful fit
+pub lawful_kept : (rules : List Rule) (b n : Bounds) → Tighter (AnswerSet rules) b n → Tighter (Lawful rules) b n
+lawful_kept rules b n t = record { low = t.low; high = t.high; keeps = λ s lawful. t.keeps s lawful.answer }

@@ -12,7 +12,8 @@ pub fn is_untouched(buffer: &[u8]) -> bool {
     buffer.iter().all(|byte| *byte == UNTOUCHED)
 }
 
-// Shows each byte as the character of its number; a run of plain ones in one piece, which takes a third of the time.
+// Shows each byte as the character of its number. Where all are ASCII they go out in one piece: byte by byte takes several times
+// as long.
 fn write_bytes<W: fmt::Write>(f: &mut fmt::Formatter<W>, bytes: &[u8]) -> fmt::Result {
     if bytes.is_ascii() {
         if let Ok(text) = str::from_utf8(bytes) {

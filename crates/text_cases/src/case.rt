@@ -83,3 +83,37 @@ pub fn print_case(rt: &HostRuntime, line: &str) -> anyhow::Result<()> {
     println!(rt; "{name}: {result}")?;
     Ok(())
 }
+
+#[cfg(test)]
+mod tests {
+    use super::*;
+
+    // What a case fails with; nothing where it has a result.
+    fn failure(heap: Global, words: &[&str]) -> anyhow::Result<String> {
+        match try_case(heap, words) {
+            Ok(_) => Ok(String::new(heap)),
+            Err(error) => Ok(format!(in heap; "{error}")?),
+        }
+    }
+
+    // Of two words that are wrong, the one that is read first is told, and before memory is asked for.
+    #[test]
+    fn first_wrong_word(rt: HostRuntime) -> anyhow::Result<()> {
+        let heap = rt.alloc();
+        let digit = "invalid digit found in string";
+        let large = "18446744073709551615";
+        assert_eq!(rt;
+            failure(heap, &["book", large, "z", "1", "10/"])?.as_str(),
+            digit
+        );
+        assert_eq!(rt;
+            failure(heap, &["book", large, "1", "1", "z*10/"])?.as_str(),
+            digit
+        );
+        assert_eq!(rt;
+            failure(heap, &["write-book", "100", "choice:256:1:x:0"])?.as_str(),
+            digit
+        );
+        Ok(())
+    }
+}
